@@ -1,0 +1,32 @@
+-- The long and the short sine of an angle from 0 to 90 degrees, in ticks.
+-- Assumes nothing.
+use Prim.Native.Nat.{ℕ, _+_, _-_, _*_, _/_, _%_}
+use Rattle.sines.specs.Table.{entry}
+
+-- "at every 200,000 ticks (0.02 degree) from 0 to 90 degrees"
+abbrev pub step : ℕ
+step = 200_000
+
+abbrev pub quarter : ℕ
+quarter = 900_000_000
+
+-- "entry k plus the floor of f × (entry k+1 - entry k) / 200,000", for any number s of units from one entry to the next
+unfoldable pub between : ℕ → ℕ → ℕ → ℕ
+between s k f = entry k + f * (entry (k + 1) - entry k) / s
+
+-- "with k = a / 200,000 and f the remainder". At 90 degrees f is 0 and the sine is the last entry.
+unfoldable pub sineBy : ℕ → ℕ → ℕ
+sineBy s a = between s (a / s) (a % s)
+
+abbrev pub longSine : ℕ → ℕ
+longSine a = sineBy step a
+
+-- "long sine divided by 10,000, dropping toward zero"
+abbrev pub shortening : ℕ
+shortening = 10_000
+
+abbrev pub shortUnit : ℕ
+shortUnit = 1_000_000_000
+
+abbrev pub shortSine : ℕ → ℕ
+shortSine a = longSine a / shortening

@@ -1,0 +1,149 @@
+-- Laws of the sines: they lie within the table's range and rise, the long sine strictly.
+-- A law over s holds of angles in any unit of which s make a step of the table, so that one proof serves every unit.
+-- Assumes nothing.
+use mathlib.Core.Path.{_≡_, refl, sym, ap, _∙_}
+use mathlib.Core.Logic.{⊎-elim}
+use Prim.Native.Nat.{ℕ, _+_, _-_, _*_, _/_, _%_, _≤_, _<_}
+use native.Mathlib.Nat.{le-refl, le-trans, eq-or-lt-of-le, mul-le-mul-right, mul-lt-mul-of-pos-right, mod-lt, div-add-mod', mul-add-div-right, div-eq-of-lt, mul-add-mod-self-right, mod-eq-of-lt, mul-div-cancel-left, le-div-iff-mul-le, div-lt-iff-lt-mul, div-le-of-le-mul, div-mul-le-self, zero-div}
+use native.Mathlib.Omega.{arith}
+use Rattle.sines.specs.Table.{unit, sines, sinesFrom, rounded, sineOfStep, twiceCosine, entry}
+use Rattle.sines.specs.Rules.{rows, leastGrowth, growth, first, last, rising}
+use Rattle.sines.specs.Sine.{step, quarter, between, sineBy, longSine, shortUnit, shortSine}
+
+module _ {s : ℕ} (positive : 0 < s) where
+  -- ---- between two entries
+
+  pub between-start : (k : ℕ) → between s k 0 ≡ entry k
+  unfolding between
+  between-start k =
+      let n : 0 * (entry (k + 1) - entry k) ≡ 0 = omega arith in
+      rw (n, zero-div s) (omega arith)
+
+  module _ {k : ℕ} (h : k < rows) where
+    abbrev gap : ℕ
+    gap = entry (k + 1) - entry k
+
+    pub between-end : between s k s ≡ entry (k + 1)
+    unfolding between
+    between-end = rw (mul-div-cancel-left gap positive) (omega (arith, growth k h))
+
+    pub between-below : {f : ℕ} → f < s → between s k f < entry (k + 1)
+    unfolding between
+    between-below {f} l =
+        let g = growth k h in
+        let m : f * gap < s * gap = mul-lt-mul-of-pos-right l (omega arith) in
+        omega (arith, div-lt-iff-lt-mul {k = s} {x = f * gap} {y = gap} positive .1 (omega arith))
+
+    pub between-lt : {f g : ℕ} → s ≤ leastGrowth → f < g → between s k f < between s k g
+    unfolding between
+    between-lt {f} {g} small l =
+        let w = growth k h in
+        let q = f * gap / s in
+        let a = div-mul-le-self (f * gap) s in
+        let b : (f + 1) * gap ≤ g * gap = mul-le-mul-right gap (omega arith) in
+        omega (arith, le-div-iff-mul-le {k = s} {x = q + 1} {y = g * gap} positive .1 (omega arith))
+
+  pub between-le : (k : ℕ) {f g : ℕ} → f ≤ g → between s k f ≤ between s k g
+  unfolding between
+  between-le k {f} {g} l =
+      let gap = entry (k + 1) - entry k in
+      omega (arith, le-div-iff-mul-le {k = s} {x = f * gap / s} {y = g * gap} positive .1 (le-trans (div-mul-le-self (f * gap) s) (mul-le-mul-right gap l)))
+
+  -- ---- an angle by its row and what is left
+
+  pub in-row : (k : ℕ) {f : ℕ} → f < s → sineBy s (k * s + f) ≡ between s k f
+  unfolding sineBy
+  in-row k {f} l =
+      let q : (k * s + f) / s ≡ k = mul-add-div-right positive k f ∙ ap (λ (x : ℕ). k + x) (div-eq-of-lt l) ∙ omega arith in
+      let r : (k * s + f) % s ≡ f = mul-add-mod-self-right k s f ∙ mod-eq-of-lt l in
+      rw (q, r)
+
+  -- also where what is left reaches the next row
+  pub to-next : {k : ℕ} → k < rows → {f : ℕ} → f ≤ s → sineBy s (k * s + f) ≡ between s k f
+  to-next {k} h {f} l = ⊎-elim whole (in-row k) (eq-or-lt-of-le l)
+    where
+      whole : f ≡ s → sineBy s (k * s + f) ≡ between s k f
+      whole e =
+          let n : k * s + s ≡ (k + 1) * s + 0 = omega arith in
+          rw (e, n, in-row (k + 1) positive, between-start (k + 1), between-end h)
+
+  pub top : sineBy s (rows * s) ≡ unit
+  top =
+      let n : rows * s ≡ rows * s + 0 = omega arith in
+      rw n (in-row rows positive ∙ between-start rows ∙ last)
+
+  -- ---- the sines rise
+
+  from-row : (a : ℕ) → entry (a / s) ≤ sineBy s a
+  unfolding sineBy between
+  from-row a = omega arith
+
+  module _ {a b : ℕ} (h : a ≤ b) (l : b ≤ rows * s) where
+    row-le : a / s ≤ b / s
+    row-le = le-div-iff-mul-le {k = s} {x = a / s} {y = b} positive .1 (le-trans (div-mul-le-self a s) h)
+
+    row-top : b / s ≤ rows
+    row-top = div-le-of-le-mul s (omega arith)
+
+    later-row : a / s < b / s → sineBy s a < sineBy s b
+    unfolding sineBy
+    later-row r =
+        omega (arith, between-below {k = a / s} (omega (arith, row-top)) (mod-lt a positive), rising (a / s + 1) (b / s) (omega arith) row-top, from-row b)
+
+    left : a / s ≡ b / s → a + b % s ≡ b + a % s
+    left e = omega (arith, div-add-mod' a s, div-add-mod' b s, ap (λ (q : ℕ). q * s) e)
+
+    pub sineBy-le : sineBy s a ≤ sineBy s b
+    unfolding sineBy
+    sineBy-le = ⊎-elim (λ e. rw (← e) (between-le (a / s) (omega (arith, left e)))) (λ r. omega (arith, later-row r)) (eq-or-lt-of-le row-le)
+
+    strictly : s ≤ leastGrowth → a < b → sineBy s a < sineBy s b
+    unfolding sineBy
+    strictly small m = ⊎-elim (λ e. rw (← e) (between-lt inside small (omega (arith, left e)))) later-row (eq-or-lt-of-le row-le)
+      where
+        inside : a / s < rows
+        inside = div-lt-iff-lt-mul {k = s} {x = a} {y = rows} positive .1 (omega arith)
+
+  pub sineBy-lt : {a b : ℕ} → s ≤ leastGrowth → a < b → b ≤ rows * s → sineBy s a < sineBy s b
+  sineBy-lt small h l = strictly (omega arith) l small h
+
+  pub sineBy-top : {a : ℕ} → a ≤ rows * s → sineBy s a ≤ unit
+  sineBy-top h = omega (arith, sineBy-le h (le-refl _), top)
+
+-- ---- the long and the short sine
+
+pub a-step : 0 < step
+a-step = omega arith
+
+pub longSine-lt : {a b : ℕ} → a < b → b ≤ quarter → longSine a < longSine b
+longSine-lt h l = sineBy-lt a-step (le-refl _) h l
+
+pub longSine-top : {a : ℕ} → a ≤ quarter → longSine a ≤ unit
+longSine-top h = sineBy-top a-step h
+
+-- one angle for a long sine
+pub longSine-one : {a b : ℕ} → a ≤ quarter → b ≤ quarter → longSine a ≡ longSine b → a ≡ b
+longSine-one h l e = omega (arith, apart l e, apart h (sym e))
+  where
+    apart : {a b : ℕ} → b ≤ quarter → longSine a ≡ longSine b → a < b → ⊥
+    apart l e m = omega (arith, longSine-lt m l)
+
+pub longSine-zero : longSine 0 ≡ 0
+longSine-zero = in-row a-step 0 a-step ∙ between-start a-step 0 ∙ first
+
+pub longSine-quarter : longSine quarter ≡ unit
+longSine-quarter = top a-step
+
+longSine-tick : longSine 1 ≡ 17_453
+unfolding sineBy between entry sines sinesFrom rounded sineOfStep twiceCosine
+longSine-tick = refl
+
+pub shortSine-le : {a b : ℕ} → a ≤ b → b ≤ quarter → shortSine a ≤ shortSine b
+shortSine-le h l = omega (arith, sineBy-le a-step h l)
+
+pub shortSine-top : {a : ℕ} → a ≤ quarter → shortSine a ≤ shortUnit
+shortSine-top h = omega (arith, longSine-top h)
+
+-- off zero even the short sine is at least 1
+pub shortSine-some : {a : ℕ} → 0 < a → a ≤ quarter → 1 ≤ shortSine a
+shortSine-some h l = omega (arith, sineBy-le a-step {a = 1} h l, longSine-tick)
