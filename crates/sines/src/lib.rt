@@ -6,8 +6,10 @@ mod table;
 
 use table::SINES;
 
+pub type Entries = [u64; 4501];
+
 // The whole table. The language has no statics, so each call builds its 36,008 bytes: make it once and lend it.
-pub fn table_of_sines() -> [u64; 4501]
+pub fn table_of_sines() -> Entries
     ensures { λ r. ⌜ r ≡ sines ⌝ }
 {
     SINES
