@@ -1,0 +1,26 @@
+-- `globe::buffer::measure` meets its contract: what refuses the buffer is sent back, and one that is accepted is measured.
+-- Assumes nothing.
+use borrow.Author.Needs.{needs}
+use Rattle.globe.specs.Buffer.{measureOf}
+use Rattle.globe.specs.LegLaws.{refused}
+use Rattle.globe.proofs.buffer.measure.Statement.{statement}
+use Rattle.globe.proofs.buffer.measure.Tie as tie
+
+buffer-refusal-requires : tie.Need-buffer-refusal-requires
+buffer-refusal-requires c κs = search needs
+
+returns : tie.Need-returns
+unfolding measureOf
+returns c = rw (← c .before .buffer-refusal .ensures) (refused _ _ (c .if1 .taken))
+
+length-of-requires : tie.Need-length-of-requires
+length-of-requires c κs = search needs
+
+returns-2 : tie.Need-returns-2
+unfolding measureOf
+returns-2 c = let d = c .before in rw (c .length-of .ensures, ← d .before .buffer-refusal .ensures, d .if1 .left)
+
+pub measure-spec : {M : Type 1} → statement M
+measure-spec =
+    tie.close
+    (tie.spec buffer-refusal-requires returns length-of-requires returns-2)

@@ -1,0 +1,87 @@
+-- `globe::legs::leg_length` meets its contract. Assumes nothing.
+use borrow.Author.Needs.{needs}
+use mathlib.Core.Path.{_≡_}
+use native.Mathlib.Omega.{arith}
+use Prim.Native.Nat.{_*_, _≤_}
+use mir.Facts.{toZ-ofZ}
+use Rattle.sines.specs.Sine.{shortUnit}
+use Rattle.globe.specs.Angle.{shortCosine}
+use Rattle.globe.specs.Leg.{halfNorth, halfEast, legLength}
+use Rattle.globe.specs.LegLaws.{north-top, east-top, product-top, chord-top}
+use Rattle.globe.proofs.legs.leg_length.Statement.{statement}
+use Rattle.globe.proofs.legs.leg_length.Tie as tie
+
+short-cosine-requires : tie.Need-short-cosine-requires
+short-cosine-requires c κs = search needs
+
+short-cosine-requires-2 : tie.Need-short-cosine-requires-2
+short-cosine-requires-2 c κs = search needs
+
+-- what the callees were given is what came in
+cosine-at : (c : tie.After-short-cosine) → c .short-cosine .result ≡ shortCosine (c .before .args .latitude)
+cosine-at c = rw (toZ-ofZ (c .before .fits .latitude)) at (c .short-cosine .ensures)
+
+cosine-at-2 : (c : tie.After-short-cosine2) → c .short-cosine2 .result ≡ shortCosine (c .before .before .args .latitude2)
+cosine-at-2 c = rw (toZ-ofZ (c .before .before .fits .latitude2)) at (c .short-cosine2 .ensures)
+
+north-at : (c : tie.After-half-north) → let a = c .before .before .before .args in c .half-north .result ≡ halfNorth (a .latitude) (a .latitude2)
+north-at c = let f = c .before .before .before .fits in rw (toZ-ofZ (f .latitude), toZ-ofZ (f .latitude2)) at (c .half-north .ensures)
+
+east-at : (c : tie.After-half-east) → let a = c .before .before .before .before .args in c .half-east .result ≡ halfEast (a .longitude) (a .longitude2)
+east-at c =
+    let f = c .before .before .before .before .fits in
+    rw (toZ-ofZ (f .longitude), toZ-ofZ (f .longitude2)) at (c .half-east .ensures)
+
+product : (c : tie.After-short-cosine2) → c .before .short-cosine .result * c .short-cosine2 .result ≤ shortUnit * shortUnit
+product c =
+    let a = c .before .before .args in
+    rw (cosine-at (c .before), cosine-at-2 c) (product-top (a .latitude) (a .latitude2))
+
+mul-m : tie.Need-mul-m
+mul-m c = omega (arith, product c)
+
+half-north-requires : tie.Need-half-north-requires
+half-north-requires c κs = search needs
+
+half-east-requires : tie.Need-half-east-requires
+half-east-requires c κs = search needs
+
+chord-of-requires : tie.Need-chord-of-requires
+chord-of-requires c κs =
+    let n = c .before in
+    let start = n .before .before .before in
+    let a = start .args in (
+      search needs,
+      (
+        omega (arith, product (n .before)),
+        (
+          omega (arith, north-at n, north-top (a .latitude) (a .latitude2) (start .pre .1 .0) (start .pre .1 .1 .1 .0)),
+          omega (arith, east-at c, east-top (a .longitude) (a .longitude2)),
+        ),
+      ),
+    )
+
+length-of-requires : tie.Need-length-of-requires
+length-of-requires c κs =
+    let asked = chord-of-requires (c .before) (c .chord-of .lifetimes) in
+    (search needs, omega (arith, c .chord-of .ensures, chord-top _ _ _ (asked .1 .0) (asked .1 .1 .0) (asked .1 .1 .1)))
+
+returns : tie.Need-returns
+unfolding legLength
+returns c =
+    let q = c .before .before in
+    let p = q .before in
+    cc (cosine-at (p .before .before), cosine-at-2 (p .before), north-at p, east-at q)
+
+pub leg-length-spec : {M : Type 1} → statement M
+leg-length-spec =
+    tie.close
+    (tie.spec
+    short-cosine-requires
+    short-cosine-requires-2
+    mul-m
+    half-north-requires
+    half-east-requires
+    chord-of-requires
+    length-of-requires
+    returns)

@@ -1,0 +1,27 @@
+-- `globe::legs::length_of` meets its contract. Assumes nothing.
+use borrow.Author.Needs.{needs}
+use Rattle.globe.proofs.legs.length_of.Statement.{statement}
+use Rattle.globe.proofs.legs.length_of.Tie as tie
+
+root-requires : tie.Need-root-requires
+root-requires c κs = search needs
+
+greatest-angle-requires : tie.Need-greatest-angle-requires
+greatest-angle-requires c κs = search needs
+
+cast-result : tie.Need-cast-result
+cast-result c = search needs
+
+mul-result : tie.Need-mul-result
+mul-result c = search needs
+
+mul-result-2 : tie.Need-mul-result-2
+mul-result-2 c = search needs
+
+returns : tie.Need-returns
+returns c = cc
+
+pub length-of-spec : {M : Type 1} → statement M
+length-of-spec =
+    tie.close
+    (tie.spec root-requires greatest-angle-requires cast-result mul-result mul-result-2 returns)

@@ -1,0 +1,18 @@
+-- `globe::sinusoidal` meets its contract: the work does, with the table that it was lent.
+-- Assumes nothing.
+use borrow.Author.Needs.{needs}
+use mir.Facts.{toZ-ofZ}
+use Rattle.globe.proofs.sinusoidal.Statement.{statement}
+use Rattle.globe.proofs.sinusoidal.Tie as tie
+
+table-of-sines-requires : tie.Need-table-of-sines-requires
+table-of-sines-requires c κs = search needs
+
+sinusoidal-requires : tie.Need-sinusoidal-requires
+sinusoidal-requires c κs = search needs
+
+returns : tie.Need-returns
+returns c = let f = c .before .before .before .fits in rw (toZ-ofZ (f .latitude), toZ-ofZ (f .longitude), toZ-ofZ (f .meridian)) at (c .sinusoidal .ensures)
+
+pub sinusoidal-spec : {M : Type 1} → statement M
+sinusoidal-spec = tie.close (tie.spec table-of-sines-requires sinusoidal-requires returns)

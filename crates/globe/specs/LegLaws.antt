@@ -1,0 +1,139 @@
+-- Laws of a leg: the root, the product that is exact before its division, what bounds each part, and three theorems about a
+-- leg's length: it is the same both ways, 0 from a point to itself, and at most half a turn's.
+-- Assumes nothing.
+use mathlib.Core.Path.{_≡_, refl, sym, ap, _∙_}
+use mathlib.Core.Bool.{true}
+use Prim.Native.Nat.{ℕ, zero, suc, _+_, _*_, _/_, _%_, _≤_, _<_}
+use native.Mathlib.Nat.{le-of-lt, le-trans, mul-comm, mul-add, mul-left-comm, mul-le-mul, mod-lt, div-add-mod, mul-add-div, div-le-of-le-mul, le-mul-of-pos-right}
+use native.Mathlib.Omega.{arith}
+use lib.Dec.{leb}
+use lib.IntN.{ℤ, natAbs, _-ℤ_}
+use borrow.Author.Tests.{le-leb, lt-leb, leb-true}
+use mir.Syntax.{w32, w64}
+use mir.Val.{SFits, toZ, ofZ}
+use mir.Facts.{toZ-ofZ}
+use Rattle.signed.specs.Sides.{one-side, sub-sides, size-sides}
+use Rattle.signed.specs.Machine.{at64, sub-fits}
+use Rattle.sines.specs.Sine.{quarter, shortUnit, shortSine}
+use Rattle.sines.specs.SineLaws.{longSine-zero, shortSine-top, shortSine-some}
+use Rattle.sines.specs.Greatest.{greatest-is}
+use Rattle.sines.specs.Back.{greatestAngle}
+use Rattle.sines.specs.BackLaws.{greatestAngle-meets}
+use Rattle.globe.specs.declared.Length.the-variants.{Millimetres, Refused}
+use Rattle.globe.specs.Ticks.{isLatitude, isLongitude, pointRefusal}
+use Rattle.globe.specs.TickLaws.{latitude, longitude}
+use Rattle.globe.specs.Angle.{shortCosine}
+use Rattle.globe.specs.AngleLaws.{cosine-top}
+use Rattle.globe.specs.Leg.{halfNorth, halfEast, cosines, chord, rootOf, legLength, measured, legOf}
+
+-- ---- the root
+
+self-le : (r : ℕ) → r ≤ r * r
+self-le zero = omega arith
+self-le (suc n) = le-mul-of-pos-right (suc n) (omega arith)
+
+pub root-is : {h r : ℕ} → r * r ≤ h → h < (r + 1) * (r + 1) → r ≡ rootOf h
+unfolding rootOf
+root-is {h} {r} l u =
+    greatest-is (λ v. leb (v * v) h) (record {
+      inside = le-trans (self-le r) l;
+      holds = le-leb (r * r) h l;
+      later = λ v m _. lt-leb (v * v) h (past v m);
+    })
+  where
+    past : (v : ℕ) → r < v → h < v * v
+    past v m = let l : r + 1 ≤ v = omega arith in omega (arith, mul-le-mul l l)
+
+-- ---- m × s / d by the parts of s, where m × s itself does not fit
+
+pub split : (m s d : ℕ) → 0 < d → m * (s / d) + m * (s % d) / d ≡ m * s / d
+split m s d h =
+    let e : m * s ≡ d * (m * (s / d)) + m * (s % d)
+    = ap (λ (x : ℕ). m * x) (sym (div-add-mod s d)) ∙ mul-add m (d * (s / d)) (s % d) ∙ ap (λ (x : ℕ). x + m * (s % d)) (mul-left-comm m d (s / d)) in
+    sym (ap (λ (x : ℕ). x / d) e ∙ mul-add-div h (m * (s / d)) (m * (s % d)))
+
+module _ {m s d : ℕ} (positive : 0 < d) (few : m ≤ d) (square : s ≤ d * d) where
+  pub high : m * (s / d) ≤ d * d
+  high = mul-le-mul few (div-le-of-le-mul d square)
+
+  pub low : m * (s % d) ≤ d * d
+  low = mul-le-mul few (le-of-lt (mod-lt s positive))
+
+  pub whole : m * s / d ≤ d * d
+  whole = div-le-of-le-mul d (mul-le-mul few square)
+
+-- ---- what bounds the parts of a leg
+
+-- a difference of two angles, as the machine reads it
+pub read-apart : {a b : ℤ} → SFits w32 a → SFits w32 b
+    → toZ w64 (ofZ w64 (toZ w64 (ofZ w64 (toZ w32 (ofZ w32 a))) -ℤ toZ w64 (ofZ w64 (toZ w32 (ofZ w32 b))))) ≡ a -ℤ b
+read-apart f g = rw (at64 f, at64 g) (toZ-ofZ (sub-fits f g))
+
+pub north-top : (lat lat′ : ℤ) → isLatitude lat ≡ true → isLatitude lat′ ≡ true → halfNorth lat lat′ ≤ quarter
+north-top a b p q = omega (arith, latitude a p, latitude b q, sub-sides a b, size-sides (a -ℤ b), one-side (a -ℤ b))
+
+pub east-apart : (lon lon′ : ℤ) → isLongitude lon ≡ true → isLongitude lon′ ≡ true → natAbs (lon -ℤ lon′) < 3_600_000_000
+east-apart a b p q = omega (arith, longitude a p, longitude b q, sub-sides a b, size-sides (a -ℤ b), one-side (a -ℤ b))
+
+pub east-top : (lon lon′ : ℤ) → halfEast lon lon′ ≤ quarter
+east-top a b = omega arith
+
+pub product-top : (lat lat′ : ℤ) → shortCosine lat * shortCosine lat′ ≤ shortUnit * shortUnit
+product-top a b = mul-le-mul (cosine-top a) (cosine-top b)
+
+pub square-top : {a : ℕ} → a ≤ quarter → shortSine a * shortSine a ≤ shortUnit * shortUnit
+square-top h = mul-le-mul (shortSine-top h) (shortSine-top h)
+
+pub chord-top : (m p q : ℕ) → m ≤ shortUnit → p ≤ quarter → q ≤ quarter → chord m p q ≤ 2_000_000_000_000_000_000
+chord-top m p q h k l = omega (arith, square-top k, whole {m = m} (omega arith) h (square-top l))
+
+-- a refusal is what is answered
+pub refused : (r n : ℕ) → (r ≡ 0 → ⊥) → Refused r ≡ measured r n
+refused zero n f = absurd (f refl)
+refused (suc r) n f = refl
+
+-- ---- three theorems
+
+-- a leg is as long one way as the other
+swap : (a b : ℤ) → natAbs (a -ℤ b) ≡ natAbs (b -ℤ a)
+swap a b =
+    omega (arith, size-sides (a -ℤ b), size-sides (b -ℤ a), sub-sides a b, sub-sides b a, one-side (a -ℤ b), one-side (b -ℤ a))
+
+pub both-ways : (lat lon lat′ lon′ : ℤ) → legLength lat lon lat′ lon′ ≡ legLength lat′ lon′ lat lon
+unfolding legLength
+both-ways lat lon lat′ lon′ = cc (swap lat lat′, swap lon lon′, mul-comm (shortCosine lat) (shortCosine lat′))
+
+pub leg-both-ways : (lat lon lat′ lon′ : ℤ) → pointRefusal lat lon ≡ 0 → pointRefusal lat′ lon′ ≡ 0
+    → legOf lat lon lat′ lon′ ≡ legOf lat′ lon′ lat lon
+unfolding legOf
+leg-both-ways lat lon lat′ lon′ p q = rw (p, q) (ap Millimetres (both-ways lat lon lat′ lon′))
+
+-- a leg from a point to itself has no length
+none : (a : ℤ) → natAbs (a -ℤ a) ≡ 0
+none a = omega (arith, size-sides (a -ℤ a), sub-sides a a, one-side (a -ℤ a))
+
+angle-zero : greatestAngle 0 ≡ 0
+angle-zero = omega (arith, past)
+  where
+    past : 0 < greatestAngle 0 → ⊥
+    past l =
+        let g = greatestAngle-meets 0 in
+        omega (arith, leb-true (shortSine (greatestAngle 0)) 0 (g .holds), shortSine-some l (g .inside))
+
+pub same-point : (lat lon : ℤ) → legLength lat lon lat lon ≡ 0
+unfolding legLength
+same-point lat lon =
+    let m = cosines (shortCosine lat) (shortCosine lat) in
+    let c : chord m 0 0 ≡ 0 = rw longSine-zero (omega arith) in
+    let r : rootOf 0 ≡ 0 = sym (root-is {h = 0} {r = 0} (omega arith) (omega arith)) in
+    rw (none lat, none lon) (rw (c, r, angle-zero))
+
+pub leg-same-point : (lat lon : ℤ) → pointRefusal lat lon ≡ 0 → legOf lat lon lat lon ≡ Millimetres 0
+unfolding legOf
+leg-same-point lat lon p = rw p (ap Millimetres (same-point lat lon))
+
+-- no leg is longer than half a turn
+pub longest : (lat lon lat′ lon′ : ℤ) → legLength lat lon lat′ lon′ ≤ 20_015_086_860
+unfolding legLength
+longest lat lon lat′ lon′ =
+    omega (arith, greatestAngle-meets (rootOf (chord (cosines (shortCosine lat) (shortCosine lat′)) (halfNorth lat lat′) (halfEast lon lon′))) .inside)

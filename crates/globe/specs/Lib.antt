@@ -1,0 +1,15 @@
+pub mod Refusal
+pub mod Choice
+pub mod Ticks
+pub mod TickLaws
+pub mod Angle
+pub mod AngleLaws
+pub mod Sheet
+pub mod Demand
+pub mod SheetLaws
+pub mod Leg
+pub mod LegLaws
+pub mod Buffer
+pub mod BufferLaws
+pub mod Paper
+pub mod Unique

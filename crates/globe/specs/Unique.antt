@@ -1,0 +1,51 @@
+-- "Prove that two results allowed by one statement are equal": each statement says that the result equals a definition, so one law
+-- serves them all. The list has an entry for each function of signed, sines and globe that others can call.
+-- Assumes nothing.
+use mathlib.Core.Path.{_≡_, sym, _∙_}
+use mathlib.Core.List.{List}
+use Prim.Native.Nat.{ℕ}
+use lib.IntN.{ℤ, natAbs}
+use mir.Syntax.{w64}
+use Rattle.signed.specs.Sign.{signAs, nearest}
+use Rattle.sines.specs.Table.{sines}
+use Rattle.globe.specs.Angle.{longSineOf, shortSineOf}
+use Rattle.globe.specs.Sheet.{cylindricalOf, sinusoidalOf, cylindricalBackOf, sinusoidalBackOf}
+use Rattle.globe.specs.Leg.{legOf}
+use Rattle.globe.specs.Buffer.{measureOf}
+
+-- what equals d is one thing
+abbrev pub One : {A : Type 0} → A → Type 0
+One {A} d = (r s : A) → r ≡ d → s ≡ d → r ≡ s
+
+one : {A : Type 0} (d : A) → One d
+one d r s p q = p ∙ sym q
+
+pub record Unique : Type 0 where
+  pub size32 : (z : ℤ) → One (natAbs z)
+  pub size64 : (z : ℤ) → One (natAbs z)
+  pub with-sign-of : (z : ℤ) (n : ℕ) → One (nearest w64 (signAs z n))
+  pub table-of-sines : One sines
+  pub long-sine : (angle : ℤ) → One (longSineOf angle)
+  pub short-sine : (angle : ℤ) → One (shortSineOf angle)
+  pub cylindrical : (lat lon meridian : ℤ) → One (cylindricalOf lat lon meridian)
+  pub sinusoidal : (lat lon meridian : ℤ) → One (sinusoidalOf lat lon meridian)
+  pub cylindrical-back : (x y meridian : ℤ) → One (cylindricalBackOf x y meridian)
+  pub sinusoidal-back : (x y meridian : ℤ) → One (sinusoidalBackOf x y meridian)
+  pub leg : (lat lon lat′ lon′ : ℤ) → One (legOf lat lon lat′ lon′)
+  pub measure : (points : List ℤ) → One (measureOf points)
+
+pub unique : Unique
+unique = record {
+  size32 = λ z. one (natAbs z);
+  size64 = λ z. one (natAbs z);
+  with-sign-of = λ z n. one (nearest w64 (signAs z n));
+  table-of-sines = one sines;
+  long-sine = λ angle. one (longSineOf angle);
+  short-sine = λ angle. one (shortSineOf angle);
+  cylindrical = λ lat lon meridian. one (cylindricalOf lat lon meridian);
+  sinusoidal = λ lat lon meridian. one (sinusoidalOf lat lon meridian);
+  cylindrical-back = λ x y meridian. one (cylindricalBackOf x y meridian);
+  sinusoidal-back = λ x y meridian. one (sinusoidalBackOf x y meridian);
+  leg = λ lat lon lat′ lon′. one (legOf lat lon lat′ lon′);
+  measure = λ points. one (measureOf points);
+}

@@ -1,0 +1,105 @@
+// The globe: sines of an angle, two sheets there and back, and lengths. Every answer is a value or a refusal's number.
+// Each function makes the table of sines first of all and lends it to the work: nothing returns before it is made, since the compiled
+// code can go wrong where a function returns before it makes a large local (docs/DECISIONS.md, "The table is made first").
+ghost use mathlib.Core.Path.{_≡_};
+ghost use Rattle.globe.specs.Angle.{longSineOf, shortSineOf};
+ghost use Rattle.globe.specs.Sheet.{cylindricalOf, sinusoidalOf, cylindricalBackOf, sinusoidalBackOf};
+ghost use Rattle.globe.specs.Leg.{legOf};
+ghost use Rattle.globe.specs.Buffer.{measureOf};
+
+mod buffer;
+mod legs;
+mod lookup;
+pub mod refusal;
+mod root;
+mod search;
+mod sheet;
+mod ticks;
+
+use sines::table_of_sines;
+
+pub enum Sine {
+    Value(i64),
+    Refused(u32),
+}
+
+// Where a point goes on a sheet: x, then y.
+pub enum Place {
+    At(i64, i64),
+    Refused(u32),
+}
+
+// Latitude, then longitude.
+pub enum Point {
+    At(i32, i32),
+    Refused(u32),
+}
+
+pub enum Length {
+    Millimetres(u64),
+    Refused(u32),
+}
+
+// 10^13 times the sine of an angle from -90 to 90 degrees.
+pub fn long_sine(angle: i32) -> Sine
+    ensures { λ r. ⌜ r ≡ longSineOf angle ⌝ }
+{
+    let t = table_of_sines();
+    lookup::long_sine(&t, angle)
+}
+
+// 10^9 times the sine of an angle from -90 to 90 degrees.
+pub fn short_sine(angle: i32) -> Sine
+    ensures { λ r. ⌜ r ≡ shortSineOf angle ⌝ }
+{
+    let t = table_of_sines();
+    lookup::short_sine(&t, angle)
+}
+
+// The place of a point on the cylindrical equal-area sheet.
+pub fn cylindrical(latitude: i32, longitude: i32, meridian: i32) -> Place
+    ensures { λ r. ⌜ r ≡ cylindricalOf latitude longitude meridian ⌝ }
+{
+    let t = table_of_sines();
+    sheet::cylindrical(&t, latitude, longitude, meridian)
+}
+
+// The place of a point on the sinusoidal sheet.
+pub fn sinusoidal(latitude: i32, longitude: i32, meridian: i32) -> Place
+    ensures { λ r. ⌜ r ≡ sinusoidalOf latitude longitude meridian ⌝ }
+{
+    let t = table_of_sines();
+    sheet::sinusoidal(&t, latitude, longitude, meridian)
+}
+
+// The point at a place of the cylindrical equal-area sheet.
+pub fn cylindrical_back(x: i64, y: i64, meridian: i32) -> Point
+    ensures { λ r. ⌜ r ≡ cylindricalBackOf x y meridian ⌝ }
+{
+    let t = table_of_sines();
+    sheet::cylindrical_back(&t, x, y, meridian)
+}
+
+// The point at a place of the sinusoidal sheet.
+pub fn sinusoidal_back(x: i64, y: i64, meridian: i32) -> Point
+    ensures { λ r. ⌜ r ≡ sinusoidalBackOf x y meridian ⌝ }
+{
+    let t = table_of_sines();
+    sheet::sinusoidal_back(&t, x, y, meridian)
+}
+
+// The length of a leg, the shorter way round.
+pub fn leg(latitude: i32, longitude: i32, latitude2: i32, longitude2: i32) -> Length
+    ensures { λ r. ⌜ r ≡ legOf latitude longitude latitude2 longitude2 ⌝ }
+{
+    let t = table_of_sines();
+    legs::leg(&t, latitude, longitude, latitude2, longitude2)
+}
+
+// The length of a whole point buffer: three numbers a point, the leg into a point whose third number is 1 not counted.
+pub fn measure(points: &[i32]) -> Length
+    ensures { λ r. ⌜ r ≡ measureOf (now (points .entry)) ⌝ }
+{
+    let t = table_of_sines();
+    buffer::measure(&t, points)
+}

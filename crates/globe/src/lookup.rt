@@ -1,0 +1,92 @@
+// Sines by a lent table of sines: the long and the short sine of a size, of an angle, and the cosine of a latitude.
+ghost use mathlib.Core.Path.{_≡_};
+ghost use mathlib.Core.Bool.{true};
+ghost use Prim.Native.Nat.{_≤_};
+ghost use Rattle.sines.specs.Table.{sines, entry};
+ghost use Rattle.sines.specs.Rules.{rows};
+ghost use Rattle.sines.specs.Sine.{quarter, longSine, shortSine};
+ghost use Rattle.globe.specs.Ticks.{isLatitude};
+ghost use Rattle.globe.specs.Angle.{signedLongSine, shortCosine, longSineOf, shortSineOf};
+use crate::Sine;
+use crate::refusal::LATITUDE;
+use crate::ticks::is_latitude;
+use signed::size32;
+use signed::with_sign_of;
+use sines::Entries;
+
+pub(crate) const ROWS: usize = 4_500;
+
+pub(crate) const STEP: u32 = 200_000;
+
+pub(crate) const QUARTER: u32 = 900_000_000;
+
+pub(crate) const SHORTENING: u64 = 10_000;
+
+pub(crate) fn entry(t: &Entries, k: usize) -> u64
+    requires { ⌜ now t ≡ sines ⌝ }
+    requires { ⌜ k ≤ rows ⌝ }
+    ensures { λ r. ⌜ r ≡ entry k ⌝ }
+{
+    t[k]
+}
+
+// f × (entry k+1 - entry k) is below 200,000 × 10^13, which fits.
+pub(crate) fn long_sine_of(t: &Entries, a: u32) -> u64
+    requires { ⌜ now t ≡ sines ⌝ }
+    requires { ⌜ a ≤ quarter ⌝ }
+    ensures { λ r. ⌜ r ≡ longSine a ⌝ }
+{
+    let k = (a / STEP) as usize;
+    let low = entry(t, k);
+    if k == ROWS {
+        return low;
+    }
+    let gap = entry(t, k + 1) - low;
+    low + (a % STEP) as u64 * gap / STEP as u64
+}
+
+pub(crate) fn short_sine_of(t: &Entries, a: u32) -> u64
+    requires { ⌜ now t ≡ sines ⌝ }
+    requires { ⌜ a ≤ quarter ⌝ }
+    ensures { λ r. ⌜ r ≡ shortSine a ⌝ }
+{
+    long_sine_of(t, a) / SHORTENING
+}
+
+pub(crate) fn signed_long_sine(t: &Entries, a: i32) -> i64
+    requires { ⌜ now t ≡ sines ⌝ }
+    requires { ⌜ isLatitude a ≡ true ⌝ }
+    ensures { λ r. ⌜ r ≡ signedLongSine a ⌝ }
+{
+    with_sign_of(a as i64, long_sine_of(t, size32(a)))
+}
+
+pub(crate) fn short_cosine(t: &Entries, latitude: i32) -> u64
+    requires { ⌜ now t ≡ sines ⌝ }
+    requires { ⌜ isLatitude latitude ≡ true ⌝ }
+    ensures { λ r. ⌜ r ≡ shortCosine latitude ⌝ }
+{
+    short_sine_of(t, QUARTER - size32(latitude))
+}
+
+// 10^13 times the sine.
+pub(crate) fn long_sine(t: &Entries, angle: i32) -> Sine
+    requires { ⌜ now t ≡ sines ⌝ }
+    ensures { λ r. ⌜ r ≡ longSineOf angle ⌝ }
+{
+    if !is_latitude(angle as i64) {
+        return Sine::Refused(LATITUDE);
+    }
+    Sine::Value(signed_long_sine(t, angle))
+}
+
+// 10^9 times the sine. Division drops toward zero, so that south mirrors north.
+pub(crate) fn short_sine(t: &Entries, angle: i32) -> Sine
+    requires { ⌜ now t ≡ sines ⌝ }
+    ensures { λ r. ⌜ r ≡ shortSineOf angle ⌝ }
+{
+    if !is_latitude(angle as i64) {
+        return Sine::Refused(LATITUDE);
+    }
+    Sine::Value(signed_long_sine(t, angle) / (SHORTENING as i64))
+}
