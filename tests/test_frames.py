@@ -1,0 +1,63 @@
+"""No compiled function sets its large frame up behind a test.
+
+A function with a local of several pages reaches its frame's end by a loop that counts in r11. Where the compiler puts that loop behind a
+first return, r11 may hold an argument, and what the function answers is nonsense though it is proved (docs/DECISIONS.md, "The table is
+made first"). So in every program that the gate has built, nothing but pushes may stand before such a loop.
+"""
+import pathlib
+import re
+import struct
+import unittest
+
+ROOT = pathlib.Path(__file__).resolve().parent.parent
+PROBE = bytes.fromhex('4989e3 4981eb')  # mov r11, rsp; sub r11, the frame's pages
+PUSHES = re.compile(rb'(?:[\x50-\x57]|\x41[\x50-\x57])*')
+
+
+def functions(elf):
+    """The name and the code of each function of an x86-64 program, by its symbol table."""
+    at, count = struct.unpack_from('<Q', elf, 0x28)[0], struct.unpack_from('<H', elf, 0x3c)[0]
+    # a section: name, type, flags, address, offset, size, link
+    sections = [struct.unpack_from('<IIQQQQI', elf, at + 0x40 * k) for k in range(count)]
+    for _, kind, _, _, offset, size, link in sections:
+        if kind != 2:  # the symbol table
+            continue
+        names = sections[link][4]
+        for entry in range(offset, offset + size, 24):
+            name, info, _, section, value, length = struct.unpack_from('<IBBHQQ', elf, entry)
+            if info & 15 == 2 and 0 < section < count:  # a function that has code here
+                start = value - sections[section][3] + sections[section][4]
+                end = elf.index(b'\0', names + name)
+                yield elf[names + name:end].decode(), elf[start:start + length]
+
+
+def late(code):
+    """Whether the frame is set up behind anything but pushes."""
+    at = code.find(PROBE)
+    return at > PUSHES.match(code).end()
+
+
+class Frames(unittest.TestCase):
+    def test_every_large_frame_is_set_up_first(self):
+        programs = [line.split(':')[0] for line in (ROOT / 'crates.txt').read_text(encoding='utf-8').split('\n')
+                    if (ROOT / 'crates' / line.split(':')[0] / 'src/main.rt').is_file()]
+        self.assertNotEqual(programs, [])
+        large = 0
+        for program in programs:
+            built = ROOT / 'target/bin' / program
+            self.assertTrue(built.is_file(), f'{built} is not there: rt check builds it')
+            for name, code in functions(built.read_bytes()):
+                large += PROBE in code
+                self.assertFalse(late(code), f'{program}: {name}')
+        self.assertGreater(large, 0)  # the functions that make the table, at the least
+
+    def test_a_late_frame_is_seen(self):
+        frame = PROBE + bytes.fromhex('00800000')
+        self.assertFalse(late(frame))
+        self.assertFalse(late(bytes.fromhex('4157 53') + frame))  # push r15; push rbx
+        self.assertTrue(late(bytes.fromhex('4c63da 7705 53') + frame))  # movsxd r11, edx; ja; push rbx
+        self.assertFalse(late(bytes.fromhex('c3')))
+
+
+if __name__ == '__main__':
+    unittest.main()
