@@ -9,7 +9,7 @@ use Rattle.sines.specs.Back.{greatestAngle}
 use Rattle.globe.specs.declared.Length.{Length}
 use Rattle.globe.specs.declared.Length.the-variants.{Millimetres, Refused}
 use Rattle.globe.specs.Choice.{firstOf}
-use Rattle.globe.specs.Ticks.{pointRefusal}
+use Rattle.globe.specs.Ticks.{fullTurn, pointRefusal}
 use Rattle.globe.specs.Angle.{shortCosine}
 
 -- "half the size of the latitude difference, dropping a half"
@@ -18,7 +18,7 @@ halfNorth lat lat′ = natAbs (lat -ℤ lat′) / 2
 
 -- "half of the smaller of d and 3,600,000,000 - d, dropping a half, where d is the size of the longitude difference"
 abbrev pub halfEast : ℤ → ℤ → ℕ
-halfEast lon lon′ = min (natAbs (lon -ℤ lon′)) (3_600_000_000 - natAbs (lon -ℤ lon′)) / 2
+halfEast lon lon′ = min (natAbs (lon -ℤ lon′)) (fullTurn - natAbs (lon -ℤ lon′)) / 2
 
 -- "the product of the two short cosines divided by 10^9, floored"
 abbrev pub cosines : ℕ → ℕ → ℕ

@@ -20,7 +20,7 @@ use Rattle.sines.specs.Greatest.{greatest-is}
 use Rattle.sines.specs.Back.{greatestAngle}
 use Rattle.sines.specs.BackLaws.{greatestAngle-meets}
 use Rattle.globe.specs.declared.Length.the-variants.{Millimetres, Refused}
-use Rattle.globe.specs.Ticks.{isLatitude, isLongitude, pointRefusal}
+use Rattle.globe.specs.Ticks.{fullTurn, isLatitude, isLongitude, pointRefusal}
 use Rattle.globe.specs.TickLaws.{latitude, longitude}
 use Rattle.globe.specs.Angle.{shortCosine}
 use Rattle.globe.specs.AngleLaws.{cosine-top}
@@ -72,7 +72,7 @@ read-apart f g = rw (at64 f, at64 g) (toZ-ofZ (sub-fits f g))
 pub north-top : (lat lat′ : ℤ) → isLatitude lat ≡ true → isLatitude lat′ ≡ true → halfNorth lat lat′ ≤ quarter
 north-top a b p q = omega (arith, latitude a p, latitude b q, sub-sides a b, size-sides (a -ℤ b), one-side (a -ℤ b))
 
-pub east-apart : (lon lon′ : ℤ) → isLongitude lon ≡ true → isLongitude lon′ ≡ true → natAbs (lon -ℤ lon′) < 3_600_000_000
+pub east-apart : (lon lon′ : ℤ) → isLongitude lon ≡ true → isLongitude lon′ ≡ true → natAbs (lon -ℤ lon′) < fullTurn
 east-apart a b p q = omega (arith, longitude a p, longitude b q, sub-sides a b, size-sides (a -ℤ b), one-side (a -ℤ b))
 
 pub east-top : (lon lon′ : ℤ) → halfEast lon lon′ ≤ quarter

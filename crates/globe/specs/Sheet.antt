@@ -1,6 +1,7 @@
 -- The two sheets: a point's place, and the point of a place.
 -- Assumes nothing.
 use Prim.Native.Nat.{ℕ, zero, suc}
+use mathlib.Core.Bool.{Bool}
 use mathlib.Core.Option.{Option, none, some}
 use lib.Dec.{eqb}
 use lib.IntN.{ℤ, pos, natAbs, _+ℤ_, _*ℤ_}
@@ -59,9 +60,12 @@ abbrev pub atPole : ℤ → ℤ → ℤ → Point
 atPole lat x meridian = unless (eqZ x (pos 0)) (Q.Refused PLACE) (Q.At lat meridian)
 
 -- elsewhere x is the offset times a width w: the quotient, which must be exact and in the longitude range
+abbrev pub isExact : ℤ → ℕ → Bool
+isExact x w = eqZ (quotZ x (pos w) *ℤ pos w) x
+
 abbrev pub offPole : ℤ → ℕ → ℤ → ℤ → Point
 offPole lat w x meridian =
-    unless (eqZ (quotZ x (pos w) *ℤ pos w) x) (Q.Refused PLACE)
+    unless (isExact x w) (Q.Refused PLACE)
     (unless (isLongitude (quotZ x (pos w))) (Q.Refused PLACE)
     (Q.At lat (turned (meridian +ℤ quotZ x (pos w)))))
 

@@ -25,8 +25,8 @@ use Rattle.globe.specs.Refusal.{PLACE}
 use Rattle.globe.specs.Choice.{unless, if_then_else_}
 use Rattle.globe.specs.Ticks.{isLatitude, isLongitude, accepted, turned, offsetOf, pointRefusal, sheetRefusal}
 use Rattle.globe.specs.TickLaws.{and-true, true-and, latitude-size, size-latitude, is-longitude, offset-longitude, sum-longitude, turn-back, back-turn, no-offset}
-use Rattle.globe.specs.Sheet.{Sheet, withSign, cylinder, sinusoid, placed, placeOf, cylindricalOf, sinusoidalOf, atPole, offPole, pointAt, pointFrom, backOf, cylindricalBackOf, sinusoidalBackOf}
-use Rattle.globe.specs.Angle.{signedLongSine, shortCosine}
+use Rattle.globe.specs.Sheet.{Sheet, withSign, cylinder, sinusoid, placed, placeOf, cylindricalOf, sinusoidalOf, atPole, isExact, offPole, pointAt, pointFrom, backOf, cylindricalBackOf, sinusoidalBackOf}
+use Rattle.globe.specs.Angle.{signedLongSine}
 use Rattle.globe.specs.AngleLaws.{cosine-off, cosine-pole}
 use Rattle.globe.specs.Demand.{HasPlace, Answer, nobody, point, Demand3}
 
@@ -69,7 +69,7 @@ either false h k = k
 at-answers : (lat : ℤ) (w : ℕ) (x meridian : ℤ) → Answer (pointAt lat w x meridian)
 at-answers lat w x meridian =
     either (eqb w 0) (or-nobody (eqZ x (pos 0)) (point _ _ refl))
-    (or-nobody (eqZ (quotZ x (pos w) *ℤ pos w) x) (or-nobody (isLongitude (quotZ x (pos w))) (point _ _ refl)))
+    (or-nobody (isExact x w) (or-nobody (isLongitude (quotZ x (pos w))) (point _ _ refl)))
 
 pub times-one : (z : ℤ) → z *ℤ pos 1 ≡ z
 times-one z = same (z *ℤ pos 1) z (omega (arith, mul-above z 1, mul-below z 1))
@@ -150,7 +150,7 @@ module _ (s : Sheet) where
       off-right w f =
           let c = s .width lat in
           let q = quotZ x (pos c) in
-          let e = past (eqZ (q *ℤ pos c) x) 11 _ f in
+          let e = past (isExact x c) 11 _ f in
           let o = past (isLongitude q) 11 _ (e .1) in
           let r = is-longitude (turned (meridian +ℤ q)) (sum-longitude q meridian (o .0) m) in
           let x-is = ap (λ (d : ℤ). d *ℤ pos c) (back-turn q meridian (o .0) m) ∙ eqZ-true (q *ℤ pos c) x (e .0) in
@@ -255,10 +255,13 @@ demand3-cylindrical = renamed (λ lat _. (never, absurd)) (demand3 cylinder cyli
 
 -- but for a pole
 pub demand3-sinusoidal : Demand3 sinusoidalOf sinusoidalBackOf (λ lat. natAbs lat ≡ quarter)
-demand3-sinusoidal = renamed (λ lat a. (pole lat a, cosine-pole lat)) (demand3 sinusoid sinusoid-invertible)
+demand3-sinusoidal = renamed (λ lat a. (pole lat a, no-width lat)) (demand3 sinusoid sinusoid-invertible)
   where
-    pole : (lat : ℤ) → isLatitude lat ≡ true → shortCosine lat ≡ 0 → natAbs lat ≡ quarter
+    pole : (lat : ℤ) → isLatitude lat ≡ true → sinusoid .width lat ≡ 0 → natAbs lat ≡ quarter
     pole lat a e = omega (arith, latitude-size lat a, off)
       where
         off : natAbs lat < quarter → ⊥
         off h = omega (arith, cosine-off lat h)
+
+    no-width : (lat : ℤ) → natAbs lat ≡ quarter → sinusoid .width lat ≡ 0
+    no-width lat h = omega (arith, cosine-pole lat h)

@@ -4,17 +4,21 @@ use Prim.Native.Nat.{ℕ}
 use mathlib.Core.Bool.{Bool, _&&_}
 use lib.IntN.{ℤ, pos, negℤ, _+ℤ_, _-ℤ_}
 use lib.Signed.{ltZ, leZ}
+use Rattle.sines.specs.Sine.{quarter}
 use Rattle.globe.specs.Refusal.{LATITUDE, LONGITUDE, MERIDIAN}
 use Rattle.globe.specs.Choice.{unless, if_then_else_}
 
 abbrev pub north : ℤ
-north = pos 900_000_000
+north = pos quarter
 
 abbrev pub halfTurn : ℤ
 halfTurn = pos 1_800_000_000
 
+abbrev pub fullTurn : ℕ
+fullTurn = 3_600_000_000
+
 abbrev pub turn : ℤ
-turn = pos 3_600_000_000
+turn = pos fullTurn
 
 -- "Latitude runs from -900,000,000 to 900,000,000, both allowed."
 abbrev pub isLatitude : ℤ → Bool

@@ -7,6 +7,7 @@ ghost use Rattle.sines.specs.Sine.{quarter, shortUnit};
 ghost use Rattle.globe.specs.Ticks.{isLatitude, isLongitude};
 ghost use Rattle.globe.specs.Leg.{halfNorth, halfEast, chord, lengthOf, legLength, legOf};
 use crate::Length;
+use crate::lookup::SHORT_UNIT;
 use crate::lookup::short_cosine;
 use crate::lookup::short_sine_of;
 use crate::refusal::first_of;
@@ -15,8 +16,6 @@ use crate::search::greatest_angle;
 use crate::ticks::point_refusal;
 use signed::size64;
 use sines::Entries;
-
-const UNIT: u64 = 1_000_000_000;
 
 const TURN: u64 = 3_600_000_000;
 
@@ -54,7 +53,7 @@ fn scaled(m: u64, s: u64) -> u64
     requires { ⌜ s ≤ shortUnit * shortUnit ⌝ }
     ensures { λ r. ⌜ r ≡ m * s / shortUnit ⌝ }
 {
-    m * (s / UNIT) + m * (s % UNIT) / UNIT
+    m * (s / SHORT_UNIT) + m * (s % SHORT_UNIT) / SHORT_UNIT
 }
 
 // H, from m and the two half angles: at most 2 × 10^18.
@@ -93,7 +92,7 @@ pub(crate) fn leg_length(
     requires { ⌜ isLongitude longitude2 ≡ true ⌝ }
     ensures { λ r. ⌜ r ≡ legLength latitude longitude latitude2 longitude2 ⌝ }
 {
-    let m = short_cosine(t, latitude) * short_cosine(t, latitude2) / UNIT;
+    let m = short_cosine(t, latitude) * short_cosine(t, latitude2) / SHORT_UNIT;
     let p = half_north(latitude, latitude2);
     let q = half_east(longitude, longitude2);
     length_of(t, chord_of(t, m, p, q))

@@ -22,6 +22,8 @@ pub(crate) const QUARTER: u32 = 900_000_000;
 
 pub(crate) const SHORTENING: u64 = 10_000;
 
+pub(crate) const SHORT_UNIT: u64 = 1_000_000_000;
+
 pub(crate) fn entry(t: &Entries, k: usize) -> u64
     requires { ⌜ now t ≡ sines ⌝ }
     requires { ⌜ k ≤ rows ⌝ }

@@ -5,12 +5,11 @@ ghost use Rattle.sines.specs.Sine.{step};
 ghost use Rattle.sines.specs.Back.{LastRow, LastAngle, greatestAngle};
 use crate::lookup::QUARTER;
 use crate::lookup::ROWS;
+use crate::lookup::SHORT_UNIT;
 use crate::lookup::SHORTENING;
 use crate::lookup::STEP;
 use crate::lookup::entry;
 use sines::Entries;
-
-const SHORT_UNIT: u64 = 1_000_000_000;
 
 // `low` is a row whose entry is at most `y`; `high` is past the last one.
 fn last_row(t: &Entries, y: u64) -> usize
@@ -30,8 +29,8 @@ fn last_row(t: &Entries, y: u64) -> usize
     low
 }
 
-// The last angle up to 90 degrees whose long sine is at most `y`. In the last row's stead `y` is below the next entry, which is
-// at most 10^13, so that the product fits.
+// The last angle up to 90 degrees whose long sine is at most `y`. Off the last row `y` is below the next entry, which is at most
+// 10^13, so that the product fits.
 pub(crate) fn last_angle(t: &Entries, y: u64) -> u32
     requires { ⌜ now t ≡ sines ⌝ }
     ensures { λ r. ⌜ LastAngle step y r ⌝ }

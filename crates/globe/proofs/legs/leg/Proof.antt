@@ -18,8 +18,8 @@ refusal-is c =
     let f = p .before .fits in
     c .first-of .ensures
     ∙ ap₂ firstOf
-    (rw (toZ-ofZ (f .latitude), toZ-ofZ (f .longitude)) at (p .point-refusal .ensures))
-    (rw (toZ-ofZ (f .latitude2), toZ-ofZ (f .longitude2)) at (c .before .point-refusal2 .ensures))
+    (p .point-refusal .ensures ∙ ap₂ pointRefusal (toZ-ofZ (f .latitude)) (toZ-ofZ (f .longitude)))
+    (c .before .point-refusal2 .ensures ∙ ap₂ pointRefusal (toZ-ofZ (f .latitude2)) (toZ-ofZ (f .longitude2)))
 
 point-refusal-requires : tie.Need-point-refusal-requires
 point-refusal-requires c κs = search needs

@@ -71,7 +71,7 @@ unfolding legLength
 returns c =
     let q = c .before .before in
     let p = q .before in
-    cc (cosine-at (p .before .before), cosine-at-2 (p .before), north-at p, east-at q)
+    rw (c .length-of .ensures, c .before .chord-of .ensures, cosine-at (p .before .before), cosine-at-2 (p .before), north-at p, east-at q)
 
 pub leg-length-spec : {M : Type 1} → statement M
 leg-length-spec =
