@@ -4,6 +4,9 @@ use globe::Length;
 use globe::Place;
 use globe::Point;
 use globe::Sine;
+use route::Reading;
+use route::Target;
+use route::read;
 use signed::size32;
 use signed::size64;
 
@@ -271,6 +274,69 @@ fn long_buffers() {
     length(b"1,001 points", globe::measure(&many));
 }
 
+fn goal(t: Target) {
+    match t {
+        Target::Millimetres(n) => field(false, n),
+        Target::None => text(b"\tnone"),
+    }
+}
+
+fn numbers(buffer: &[i32]) {
+    let mut i = 0;
+    while i < buffer.len() {
+        ticks(buffer[i]);
+        i += 1;
+    }
+}
+
+// The answer, then every number of the buffer.
+fn reading(name: &[u8], r: Reading, buffer: &[i32]) {
+    text(name);
+    match r {
+        Reading::Route {
+            points,
+            length,
+            target,
+        } => {
+            field(false, points as u64);
+            field(false, length);
+            goal(target);
+        }
+        Reading::Refused(n, line) => {
+            refused(n);
+            field(false, line as u64);
+        }
+    }
+    numbers(buffer);
+    text(b"\n");
+}
+
+fn routes() {
+    let mut a = [9; 8];
+    let r = read(b"route\tpoint\np\t0\t0\np\t0.0000002\t0\n", &mut a);
+    reading(b"two points into eight numbers", r, &a);
+    let mut b = [9; 6];
+    let s = read(
+        b"route\tcomma\nt\t2,5\np\t0\t0\ng\np\t0\t0,0000002\n",
+        &mut b,
+    );
+    reading(b"a target, and the pen up between two points", s, &b);
+    let t = read(b"route\tpoint\n", &mut []);
+    reading(b"no points into no numbers", t, &[]);
+}
+
+fn route_refusals() {
+    let mut a = [9; 5];
+    let r = read(b"route\tpoint\np\t0\t0\np\t0.0000002\t0\n", &mut a);
+    reading(b"two points into five numbers", r, &a);
+    let mut b = [9; 6];
+    let s = read(b"route\tpoint\np\t1\t2\np\t3\t4.\n", &mut b);
+    reading(b"a good line, then a bad one", s, &b);
+    let mut c = [9; 2];
+    let t = read(b"route\tpoint\np\t1\t2\ng\n", &mut c);
+    reading(b"a last g, and too few numbers", t, &c);
+}
+
 fn main() {
     long_sines();
     short_sines();
@@ -287,4 +353,6 @@ fn main() {
     buffers();
     buffer_refusals();
     long_buffers();
+    routes();
+    route_refusals();
 }

@@ -8,6 +8,7 @@ use lib.IntN.{ℤ, natAbs}
 use mir.Syntax.{w64}
 use Rattle.signed.specs.Sign.{signAs, nearest}
 use Rattle.sines.specs.Table.{sines}
+use Rattle.globe.specs.Ticks.{isLatitude, isLongitude}
 use Rattle.globe.specs.Angle.{longSineOf, shortSineOf}
 use Rattle.globe.specs.Sheet.{cylindricalOf, sinusoidalOf, cylindricalBackOf, sinusoidalBackOf}
 use Rattle.globe.specs.Leg.{legOf}
@@ -17,7 +18,7 @@ use Rattle.globe.specs.Buffer.{measureOf}
 abbrev pub One : {A : Type 0} → A → Type 0
 One {A} d = (r s : A) → r ≡ d → s ≡ d → r ≡ s
 
-one : {A : Type 0} (d : A) → One d
+pub one : {A : Type 0} (d : A) → One d
 one d r s p q = p ∙ sym q
 
 pub record Unique : Type 0 where
@@ -25,6 +26,8 @@ pub record Unique : Type 0 where
   pub size64 : (z : ℤ) → One (natAbs z)
   pub with-sign-of : (z : ℤ) (n : ℕ) → One (nearest w64 (signAs z n))
   pub table-of-sines : One sines
+  pub is-latitude : (z : ℤ) → One (isLatitude z)
+  pub is-longitude : (z : ℤ) → One (isLongitude z)
   pub long-sine : (angle : ℤ) → One (longSineOf angle)
   pub short-sine : (angle : ℤ) → One (shortSineOf angle)
   pub cylindrical : (lat lon meridian : ℤ) → One (cylindricalOf lat lon meridian)
@@ -40,6 +43,8 @@ unique = record {
   size64 = λ z. one (natAbs z);
   with-sign-of = λ z n. one (nearest w64 (signAs z n));
   table-of-sines = one sines;
+  is-latitude = λ z. one (isLatitude z);
+  is-longitude = λ z. one (isLongitude z);
   long-sine = λ angle. one (longSineOf angle);
   short-sine = λ angle. one (shortSineOf angle);
   cylindrical = λ lat lon meridian. one (cylindricalOf lat lon meridian);

@@ -12,9 +12,9 @@ use crate::ticks::point_refusal;
 use sines::Entries;
 
 // How many numbers a point has: latitude, longitude, and 1 where the pen was up before it.
-const NUMBERS: usize = 3;
+pub const NUMBERS: usize = 3;
 
-const MOST_POINTS: usize = 1_000;
+pub const MOST_POINTS: usize = 1_000;
 
 fn third_fits(points: &[i32], i: usize) -> bool
     requires { ⌜ i < count (now points) ⌝ }

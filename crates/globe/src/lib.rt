@@ -7,14 +7,14 @@ ghost use Rattle.globe.specs.Sheet.{cylindricalOf, sinusoidalOf, cylindr
 ghost use Rattle.globe.specs.Leg.{legOf};
 ghost use Rattle.globe.specs.Buffer.{measureOf};
 
-mod buffer;
+pub mod buffer;
 mod legs;
 mod lookup;
 pub mod refusal;
 mod root;
 mod search;
 mod sheet;
-mod ticks;
+pub mod ticks;
 
 use sines::table_of_sines;
 

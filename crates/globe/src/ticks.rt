@@ -15,13 +15,13 @@ const EAST: i64 = 1_800_000_000;
 
 const TURN: i64 = 3_600_000_000;
 
-pub(crate) fn is_latitude(z: i64) -> bool
+pub fn is_latitude(z: i64) -> bool
     ensures { λ r. ⌜ r ≡ isLatitude z ⌝ }
 {
     (SOUTH <= z) & (z <= NORTH)
 }
 
-pub(crate) fn is_longitude(z: i64) -> bool
+pub fn is_longitude(z: i64) -> bool
     ensures { λ r. ⌜ r ≡ isLongitude z ⌝ }
 {
     (WEST <= z) & (z < EAST)

@@ -1,0 +1,138 @@
+-- `read_line` meets its contract: the tabs that are found part the line into the definition's fields.
+-- Assumes nothing.
+use mathlib.Core.Path.{refl, sym, _∙_}
+use Prim.Native.Nat.{_+_, _<_}
+use native.Mathlib.Omega.{arith}
+use borrow.Author.Needs.{needs}
+use borrow.Author.Tests.{ltb-true, ltb-false}
+use lib.ListN.{length}
+use lib.Seq.{length-take-le}
+use Rattle.route.specs.PieceLaws.{onward}
+use Rattle.route.specs.LineLaws.{one-field, two-fields, three-fields, more-fields}
+use Rattle.route.proofs.lines.read_line.Statement.{statement}
+use Rattle.route.proofs.lines.read_line.Tie as tie
+
+first : (c : tie.Else1) → c .before .find .result < length (c .before .before .before .args .s .now)
+first c = omega (arith, c .before .find .ensures .1)
+
+second : (c : tie.Else2) →
+    let f = c .before .before .before .before .before in
+    c .before .find2 .result < length (onward (f .before .before .args .s .now) (f .find .result + 1))
+second c = omega (arith, c .before .find2 .ensures .1)
+
+find-requires : tie.Need-find-requires
+find-requires c κs = search needs
+
+gap-requires : tie.Need-gap-requires
+gap-requires c κs = search needs
+
+returns : tie.Need-returns
+returns c =
+    let f = c .before .before in
+    c .gap .ensures ∙ sym (one-field _ _ (f .before .before .args .s .now) (omega (arith, f .find .ensures .0)))
+
+slice-aggregate-kind : tie.Need-slice-aggregate-kind
+slice-aggregate-kind c = sym (length-take-le _ _ (c .before .before .find .ensures .1))
+
+add-fields : tie.Need-add-fields
+add-fields c = search needs
+
+sub-fields : tie.Need-sub-fields
+sub-fields c = search needs
+
+part-fields-start : tie.Need-part-fields-start
+part-fields-start c = search needs
+
+part-fields-end : tie.Need-part-fields-end
+part-fields-end c = search needs
+
+find-requires-2 : tie.Need-find-requires-2
+find-requires-2 c κs = search needs
+
+target-requires : tie.Need-target-requires
+target-requires c κs = search needs
+
+returns-2 : tie.Need-returns-2
+returns-2 c =
+    let g = c .before .before in
+    let f = g .before .before .before .before in
+    let s = f .before .before .args .s .now in
+    let i = f .find .result in
+    c .target .ensures ∙
+    sym (two-fields _ _ s i (f .find .ensures .0) (first (g .before .before .before)) (onward s (i + 1)) refl (omega (arith, g .find2 .ensures .0)))
+
+add-last : tie.Need-add-last
+add-last c = search needs
+
+sub-last : tie.Need-sub-last
+sub-last c = search needs
+
+part-last-start : tie.Need-part-last-start
+part-last-start c = search needs
+
+part-last-end : tie.Need-part-last-end
+part-last-end c = search needs
+
+has-requires : tie.Need-has-requires
+has-requires c κs = search needs
+
+returns-3 : tie.Need-returns-3
+returns-3 c =
+    let h = c .before in
+    let g = h .before .before .before in
+    let f = g .before .before .before .before in
+    let s = f .before .before .args .s .now in
+    let i = f .find .result in
+    let t = onward s (i + 1) in
+    let j = g .find2 .result in
+    sym
+    (more-fields _ _ s i (f .find .ensures .0) (first (g .before .before .before)) t refl
+    j (g .find2 .ensures .0) (second (h .before .before)) (onward t (j + 1)) refl
+    (ltb-true _ _ (sym (h .has .ensures) ∙ c .if3 .taken)))
+
+slice-aggregate-point : tie.Need-slice-aggregate-point
+slice-aggregate-point c = sym (length-take-le _ _ (c .before .before .before .before .before .find2 .ensures .1))
+
+point-requires : tie.Need-point-requires
+point-requires c κs = search needs
+
+returns-4 : tie.Need-returns-4
+returns-4 c =
+    let d = c .before .before in
+    let h = d .before in
+    let g = h .before .before .before in
+    let f = g .before .before .before .before in
+    let s = f .before .before .args .s .now in
+    let i = f .find .result in
+    let t = onward s (i + 1) in
+    let j = g .find2 .result in
+    c .point .ensures ∙
+    sym
+    (three-fields _ _ s i (f .find .ensures .0) (first (g .before .before .before)) t refl
+    j (g .find2 .ensures .0) (second (h .before .before)) (onward t (j + 1)) refl
+    (ltb-false _ _ (sym (h .has .ensures) ∙ d .if3 .left)))
+
+pub read-line-spec : {M : Type 1} → statement M
+read-line-spec =
+    tie.close
+    (tie.spec
+    find-requires
+    gap-requires
+    returns
+    slice-aggregate-kind
+    add-fields
+    sub-fields
+    part-fields-start
+    part-fields-end
+    find-requires-2
+    target-requires
+    returns-2
+    add-last
+    sub-last
+    part-last-start
+    part-last-end
+    has-requires
+    returns-3
+    slice-aggregate-point
+    point-requires
+    returns-4)

@@ -1,0 +1,104 @@
+-- `read` meets its contract: a text that is too long or has no header is refused, and the lines after line 1 are read by the mark that it names.
+-- Assumes nothing.
+use mathlib.Core.Path.{sym, _∙_}
+use Prim.Native.Nat.{_<_}
+use native.Mathlib.Omega.{arith}
+use borrow.Author.Needs.{needs}
+use lib.ListN.{length}
+use lib.Seq.{length-take-le}
+use Rattle.route.specs.Route.{bufferOf}
+use Rattle.route.specs.WalkLaws.{too-long, no-line, unknown, named, points-after}
+use Rattle.route.specs.Promises.{refusal-leaves}
+use Rattle.route.proofs.read.Statement.{statement}
+use Rattle.route.proofs.read.Tie as tie
+
+inside : (c : tie.Else2) → c .before .find .result < length (c .before .before .before .before .args .text .now)
+inside c = omega (arith, c .before .find .ensures .1)
+
+returns : tie.Need-returns
+returns c =
+    let s = c .before .before in
+    let e = too-long (s .args .text .now) (length (s .args .buffer .now)) (c .if1 .taken) in
+    (sym e, sym (refusal-leaves (s .args .text .now) (s .args .buffer .now) e))
+
+find-requires : tie.Need-find-requires
+find-requires c κs = search needs
+
+returns-2 : tie.Need-returns-2
+returns-2 c =
+    let f = c .before in
+    let s = f .before .before .before in
+    let e = no-line (s .args .text .now) (length (s .args .buffer .now)) (f .before .if1 .left) (omega (arith, f .find .ensures .0)) in
+    (sym e, sym (refusal-leaves (s .args .text .now) (s .args .buffer .now) e))
+
+slice-aggregate-read-header : tie.Need-slice-aggregate-read-header
+slice-aggregate-read-header c = sym (length-take-le _ _ (c .before .before .find .ensures .1))
+
+read-header-requires : tie.Need-read-header-requires
+read-header-requires c κs = search needs
+
+enum-known-mark : tie.Need-enum-known-mark
+enum-known-mark c = search needs
+
+enum-told : tie.Need-enum-told
+enum-told c = search needs
+
+returns-3 : tie.Need-returns-3
+returns-3 c =
+    let h = c .before .before in
+    let f = h .before .before .before in
+    let s = f .before .before .before in
+    let e = unknown (s .args .text .now) (length (s .args .buffer .now)) (f .before .if1 .left) (f .find .result) (f .find .ensures .0) (inside (h .before .before)) (sym (h .read-header .ensures) ∙ c .enum-told .given .1) in
+    (sym e, sym (refusal-leaves (s .args .text .now) (s .args .buffer .now) e))
+
+add-read-body : tie.Need-add-read-body
+add-read-body c = search needs
+
+sub-read-body : tie.Need-sub-read-body
+sub-read-body c = search needs
+
+part-read-body-start : tie.Need-part-read-body-start
+part-read-body-start c = search needs
+
+part-read-body-end : tie.Need-part-read-body-end
+part-read-body-end c = search needs
+
+read-body-requires : tie.Need-read-body-requires
+read-body-requires c κs = search needs
+
+same-length : tie.Need-same-length
+same-length c = search needs
+
+returns-4 : tie.Need-returns-4
+unfolding bufferOf
+returns-4 c =
+    let b = c .before .read-body .ensures in
+    let m = c .before .before .before .before .before in
+    let h = m .before .before in
+    let f = h .before .before .before in
+    let s = f .before .before .before in
+    let text = s .args .text .now in
+    let q = sym (h .read-header .ensures) ∙ m .mark .given .1 in
+    let e = named text (length (s .args .buffer .now)) (f .before .if1 .left) (f .find .result) (f .find .ensures .0) (inside (h .before .before)) _ q in
+    let p = points-after text (length (s .args .buffer .now)) (f .before .if1 .left) (f .find .result) (f .find .ensures .0) (inside (h .before .before)) _ q in
+    (b .0 ∙ sym e, rw (e, p) (b .1))
+
+pub read-spec : {M : Type 1} → statement M
+read-spec =
+    tie.close
+    (tie.spec
+    returns
+    find-requires
+    returns-2
+    slice-aggregate-read-header
+    read-header-requires
+    enum-known-mark
+    enum-told
+    returns-3
+    add-read-body
+    sub-read-body
+    part-read-body-start
+    part-read-body-end
+    read-body-requires
+    same-length
+    returns-4)

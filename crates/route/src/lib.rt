@@ -1,0 +1,75 @@
+// A route's text: read exactly, or refused with a number and a line.
+ghost use mathlib.Core.Path.{_≡_};
+ghost use lib.ListN.{length};
+ghost use Rattle.route.specs.Route.{headerOf, readingOf, bufferOf};
+
+mod lines;
+mod numbers;
+mod pieces;
+mod reader;
+pub mod refusal;
+
+use pieces::LF;
+use pieces::equal;
+use pieces::find;
+use refusal::HEADER;
+use refusal::TEXT;
+
+// The decimal mark that line 1 names.
+pub(crate) enum Mark {
+    Point,
+    Comma,
+}
+
+pub(crate) enum Header {
+    Names(Mark),
+    Unknown,
+}
+
+pub enum Target {
+    None,
+    Millimetres(u64),
+}
+
+// A refusal comes with its number and line.
+pub enum Reading {
+    Route {
+        points: u32,
+        length: u64,
+        target: Target,
+    },
+    Refused(u32, u32),
+}
+
+const MOST_BYTES: usize = 60_000;
+
+fn read_header(line: &[u8]) -> Header
+    ensures { λ r. ⌜ r ≡ headerOf (now (line .entry)) ⌝ }
+{
+    if equal(line, b"route\tpoint") {
+        return Header::Names(Mark::Point);
+    }
+    if equal(line, b"route\tcomma") {
+        return Header::Names(Mark::Comma);
+    }
+    Header::Unknown
+}
+
+// The route that a text says. Of an accepted one, the buffer has three numbers a point: latitude, longitude, and 1 for the first point and
+// after `g`, else 0. Nothing else in the buffer changes, and nothing at all where the text is refused.
+pub fn read(text: &[u8], buffer: &mut [i32]) -> Reading
+    ensures answer { λ r. ⌜ r ≡ readingOf (now (text .entry)) (length (now (buffer .entry))) ⌝ }
+    ensures left { λ _. ⌜ now (buffer .exit) ≡ bufferOf (now (text .entry)) (now (buffer .entry)) ⌝ }
+{
+    if MOST_BYTES < text.len() {
+        return Reading::Refused(TEXT, 0);
+    }
+    let e = find(text, LF);
+    if e == text.len() {
+        return Reading::Refused(HEADER, 1);
+    }
+    let Header::Names(mark) = read_header(&text[..e]) else {
+        return Reading::Refused(HEADER, 1);
+    };
+    reader::read_body(&text[e + 1..], mark, buffer)
+}

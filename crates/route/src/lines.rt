@@ -1,0 +1,234 @@
+// One line after line 1, judged by the lines before it.
+ghost use mathlib.Core.Path.{_≡_};
+ghost use Prim.Native.Nat.{_≤_};
+ghost use Rattle.globe.specs.Buffer.{mostPoints};
+ghost use Rattle.route.specs.Line.{refusalOf, latitudeOf, longitudeOf, isFirst, isPoint, isGap, gapOf, targetOf, pointOf, lineOf, fresh, afterOf, thirdOf};
+use crate::Mark;
+use crate::Target;
+use crate::numbers::Number;
+use crate::numbers::degrees;
+use crate::numbers::kilometres;
+use crate::numbers::read_number;
+use crate::pieces::TAB;
+use crate::pieces::find;
+use crate::pieces::has;
+use crate::pieces::is_byte;
+use crate::refusal::LINE;
+use crate::refusal::ORDER;
+use globe::buffer::MOST_POINTS;
+use globe::refusal::LATITUDE;
+use globe::refusal::LONGITUDE;
+use globe::refusal::POINTS;
+use globe::ticks::is_latitude;
+use globe::ticks::is_longitude;
+use signed::size64;
+
+// What a line is read as.
+pub(crate) enum Line {
+    Target(u64),
+    Point(i32, i32),
+    Gap,
+    Refused(u32),
+}
+
+// What the line before was.
+pub(crate) enum Before {
+    Header,
+    Target,
+    Point,
+    Gap,
+}
+
+// What the lines so far leave for the next one.
+pub(crate) struct State {
+    pub before: Before,
+    pub points: u32,
+    pub target: Target,
+}
+
+// A target is in kilometres, its third decimal a metre.
+const METRE: u64 = 1_000;
+
+fn is_first(before: Before) -> bool
+    ensures { λ r. ⌜ r ≡ isFirst before ⌝ }
+{
+    match before {
+        Before::Header => true,
+        Before::Target => false,
+        Before::Point => false,
+        Before::Gap => false,
+    }
+}
+
+fn is_point(before: Before) -> bool
+    ensures { λ r. ⌜ r ≡ isPoint before ⌝ }
+{
+    match before {
+        Before::Point => true,
+        Before::Header => false,
+        Before::Target => false,
+        Before::Gap => false,
+    }
+}
+
+pub(crate) fn is_gap(before: Before) -> bool
+    ensures { λ r. ⌜ r ≡ isGap before ⌝ }
+{
+    match before {
+        Before::Gap => true,
+        Before::Header => false,
+        Before::Target => false,
+        Before::Point => false,
+    }
+}
+
+// 0 where the number was read.
+fn refusal_of(n: Number) -> u32
+    ensures { λ r. ⌜ r ≡ refusalOf n ⌝ }
+{
+    match n {
+        Number::Value(_) => 0,
+        Number::Refused(refusal) => refusal,
+    }
+}
+
+fn latitude(field: &[u8], mark: Mark) -> Number
+    ensures { λ r. ⌜ r ≡ latitudeOf mark (now (field .entry)) ⌝ }
+{
+    let number = read_number(field, mark, degrees());
+    let Number::Value(ticks) = number else {
+        return number;
+    };
+    if !is_latitude(ticks) {
+        return Number::Refused(LATITUDE);
+    }
+    number
+}
+
+fn longitude(field: &[u8], mark: Mark) -> Number
+    ensures { λ r. ⌜ r ≡ longitudeOf mark (now (field .entry)) ⌝ }
+{
+    let number = read_number(field, mark, degrees());
+    let Number::Value(ticks) = number else {
+        return number;
+    };
+    if !is_longitude(ticks) {
+        return Number::Refused(LONGITUDE);
+    }
+    number
+}
+
+fn gap(kind: &[u8], before: Before) -> Line
+    ensures { λ r. ⌜ r ≡ gapOf before (now (kind .entry)) ⌝ }
+{
+    if !is_byte(kind, b'g') {
+        return Line::Refused(LINE);
+    }
+    if !is_point(before) {
+        return Line::Refused(ORDER);
+    }
+    Line::Gap
+}
+
+fn target(kind: &[u8], field: &[u8], mark: Mark, before: Before) -> Line
+    ensures { λ r. ⌜ r ≡ targetOf mark before (now (kind .entry)) (now (field .entry)) ⌝ }
+{
+    if !is_byte(kind, b't') {
+        return Line::Refused(LINE);
+    }
+    if !is_first(before) {
+        return Line::Refused(ORDER);
+    }
+    let number = read_number(field, mark, kilometres());
+    let Number::Value(metres) = number else {
+        return Line::Refused(refusal_of(number));
+    };
+    // no minus, so its size is the number itself
+    Line::Target(METRE * size64(metres))
+}
+
+fn point(kind: &[u8], first: &[u8], second: &[u8], mark: Mark, points: u32) -> Line
+    ensures { λ r. ⌜ r ≡ pointOf mark points (now (kind .entry)) (now (first .entry)) (now (second .entry)) ⌝ }
+{
+    if !is_byte(kind, b'p') {
+        return Line::Refused(LINE);
+    }
+    if MOST_POINTS <= points as usize {
+        return Line::Refused(POINTS);
+    }
+    let number = latitude(first, mark);
+    let Number::Value(y) = number else {
+        return Line::Refused(refusal_of(number));
+    };
+    let number2 = longitude(second, mark);
+    let Number::Value(x) = number2 else {
+        return Line::Refused(refusal_of(number2));
+    };
+    Line::Point(y as i32, x as i32)
+}
+
+// The number of fields decides which kind the line can be.
+pub(crate) fn read_line(s: &[u8], mark: Mark, st: State) -> Line
+    ensures { λ r. ⌜ r ≡ lineOf mark st (now (s .entry)) ⌝ }
+{
+    let before = st.before;
+    let i = find(s, TAB);
+    if i == s.len() {
+        return gap(s, before);
+    }
+    let kind = &s[..i];
+    let fields = &s[i + 1..];
+    let j = find(fields, TAB);
+    if j == fields.len() {
+        return target(kind, fields, mark, before);
+    }
+    let last = &fields[j + 1..];
+    if has(last, TAB) {
+        return Line::Refused(LINE);
+    }
+    point(kind, &fields[..j], last, mark, st.points)
+}
+
+// Before line 2.
+pub(crate) fn fresh() -> State
+    ensures { λ r. ⌜ r ≡ fresh ⌝ }
+{
+    State {
+        before: Before::Header,
+        points: 0,
+        target: Target::None,
+    }
+}
+
+pub(crate) fn after(st: State, line: Line) -> State
+    requires { ⌜ st .points ≤ mostPoints ⌝ }
+    ensures { λ r. ⌜ r ≡ afterOf st line ⌝ }
+{
+    let points = st.points;
+    let target = st.target;
+    match line {
+        Line::Target(millimetres) => State {
+            before: Before::Target,
+            points: points,
+            target: Target::Millimetres(millimetres),
+        },
+        Line::Point(_, _) => State {
+            before: Before::Point,
+            points: points + 1,
+            target: target,
+        },
+        Line::Gap => State {
+            before: Before::Gap,
+            points: points,
+            target: target,
+        },
+        Line::Refused(_) => st,
+    }
+}
+
+// 1 for the first point and after `g`, else 0.
+pub(crate) fn third(before: Before) -> i32
+    ensures { λ r. ⌜ r ≡ thirdOf before ⌝ }
+{
+    if is_point(before) { 0 } else { 1 }
+}

@@ -1,0 +1,142 @@
+// The lines after line 1: all of them are judged, then the buffer is filled, then it is measured.
+ghost use mathlib.Core.Path.{_≡_};
+ghost use Prim.Native.Nat.{_+_, _≤_};
+ghost use lib.ListN.{length};
+ghost use lib.Seq.{sets};
+ghost use Rattle.globe.specs.Paper.{lengthPaper};
+ghost use Rattle.route.specs.Pieces.{LF, split};
+ghost use Rattle.route.specs.Line.{fresh, numbersOf};
+ghost use Rattle.route.specs.Route.{mostBytes, endOf, judgeFrom, pointsFrom, bodyOf, written, leftBy};
+use crate::Mark;
+use crate::Reading;
+use crate::lines::Line;
+use crate::lines::State;
+use crate::lines::after;
+use crate::lines::fresh;
+use crate::lines::is_gap;
+use crate::lines::read_line;
+use crate::lines::third;
+use crate::pieces::LF;
+use crate::pieces::find;
+use crate::refusal::LINE;
+use crate::refusal::ORDER;
+use crate::refusal::ROOM;
+use globe::Length;
+use globe::buffer::NUMBERS;
+use globe::measure;
+
+// What the lines leave, or the refusal and its line.
+pub(crate) enum Judged {
+    Accepted(State),
+    Refused(u32, u32),
+}
+
+// What stands after the last LF is a line without LF; a last `g` names its own line.
+fn ending(rest: &[u8], line: u32, st: State) -> Judged
+    requires { ⌜ 1 ≤ line ⌝ }
+    ensures { λ r. ⌜ r ≡ endOf line (now (rest .entry)) st ⌝ }
+{
+    if rest.len() != 0 {
+        return Judged::Refused(LINE, line);
+    }
+    let before = st.before;
+    if is_gap(before) {
+        return Judged::Refused(ORDER, line - 1);
+    }
+    Judged::Accepted(st)
+}
+
+fn judge(text: &[u8], mark: Mark) -> Judged
+    requires { ⌜ length (now text) ≤ mostBytes ⌝ }
+    ensures { λ r. ⌜ r ≡ judgeFrom mark 2 (split LF (now (text .entry))) fresh ⌝ }
+{
+    let mut rest = text;
+    let mut line: u32 = 2;
+    let mut st = fresh();
+    loop {
+        let e = find(rest, LF);
+        if e == rest.len() {
+            return ending(rest, line, st);
+        }
+        let l = read_line(&rest[..e], mark, st);
+        if let Line::Refused(n) = l {
+            return Judged::Refused(n, line);
+        }
+        st = after(st, l);
+        line += 1;
+        rest = &rest[e + 1..];
+    }
+}
+
+// The numbers of a line into the buffer; answers the next place.
+fn put(buffer: &mut [i32], at: usize, st: State, line: Line) -> usize
+    requires { ⌜ at + length (numbersOf st line) ≤ length (now buffer) ⌝ }
+    ensures next { λ r. ⌜ r ≡ at + length (numbersOf st line) ⌝ }
+    ensures written { λ _. ⌜ now (buffer .exit) ≡ sets (now (buffer .entry)) at (numbersOf st line) ⌝ }
+{
+    let before = st.before;
+    if let Line::Point(latitude, longitude) = line {
+        buffer[at] = latitude;
+        buffer[at + 1] = longitude;
+        buffer[at + 2] = third(before);
+        return at + NUMBERS;
+    }
+    at
+}
+
+// The numbers of all points of a text that was accepted.
+fn fill(text: &[u8], mark: Mark, buffer: &mut [i32])
+    requires { ⌜ length (now text) ≤ mostBytes ⌝ }
+    requires { ⌜ length (pointsFrom mark (split LF (now text)) fresh) ≤ length (now buffer) ⌝ }
+    ensures { λ _. ⌜ now (buffer .exit) ≡ written (pointsFrom mark (split LF (now (text .entry))) fresh) (now (buffer .entry)) ⌝ }
+{
+    let mut rest = text;
+    let mut at: usize = 0;
+    let mut st = fresh();
+    loop {
+        let e = find(rest, LF);
+        if e == rest.len() {
+            return;
+        }
+        let l = read_line(&rest[..e], mark, st);
+        at = put(buffer, at, st, l);
+        st = after(st, l);
+        rest = &rest[e + 1..];
+    }
+}
+
+// 0 beside a refusal; the points of a text that was accepted have none.
+fn millimetres(length: Length) -> u64
+    ensures { λ r. ⌜ r ≡ lengthPaper length .millimetres ⌝ }
+{
+    match length {
+        Length::Millimetres(n) => n,
+        Length::Refused(_) => 0,
+    }
+}
+
+pub(crate) fn read_body(text: &[u8], mark: Mark, buffer: &mut [i32]) -> Reading
+    requires { ⌜ length (now text) ≤ mostBytes ⌝ }
+    ensures answer { λ r. ⌜ r ≡ bodyOf mark (now (text .entry)) (length (now (buffer .entry))) ⌝ }
+    ensures left { λ _. ⌜ now (buffer .exit) ≡ leftBy (bodyOf mark (now (text .entry)) (length (now (buffer .entry)))) (pointsFrom mark (split LF (now (text .entry))) fresh) (now (buffer .entry)) ⌝ }
+{
+    let judged = judge(text, mark);
+    match judged {
+        Judged::Refused(refusal, line) => Reading::Refused(refusal, line),
+        Judged::Accepted(st) => {
+            let points = st.points;
+            let target = st.target;
+            let numbers = NUMBERS * (points as usize);
+            if buffer.len() < numbers {
+                return Reading::Refused(ROOM, 0);
+            }
+            fill(text, mark, buffer);
+            let length = millimetres(measure(&buffer[..numbers]));
+            Reading::Route {
+                points: points,
+                length: length,
+                target: target,
+            }
+        }
+    }
+}

@@ -1,0 +1,29 @@
+"""Runs a program that rt check has built, as rt itself does: under the kit's loader and C library, and under the kit's emulator where it
+has one. Programs are for x86-64; the kit for Arm has the emulator, so the same words serve on both kinds of machine."""
+import functools
+import os
+import pathlib
+import subprocess
+
+ROOT = pathlib.Path(__file__).resolve().parent.parent
+
+
+@functools.lru_cache(maxsize=None)
+def command(program):
+    """The words that start a program."""
+    path = ROOT / 'target/bin' / program
+    if not path.is_file():
+        raise FileNotFoundError(f'target/bin/{program} is not there: rt check builds it')
+    guide = subprocess.run(['rt', 'doc'], check=True, capture_output=True, text=True).stdout.strip()
+    # the guide is docs/START-HERE.md of the kit
+    tools = pathlib.Path(guide).parent.parent / 'on' / os.uname().machine / 'toolchain'
+    emulator = tools / 'bin/qemu-x86_64'
+    return [*([emulator] if emulator.exists() else []), tools / 'lib/ld-linux-x86-64.so.2', '--library-path', tools / 'lib', path]
+
+
+def run(program, given=b''):
+    """What a program prints for the bytes on its standard input. One that fails or complains raises."""
+    ran = subprocess.run(command(program), input=given, capture_output=True, timeout=60)
+    if ran.returncode or ran.stderr:
+        raise RuntimeError(f'{program} ended with status {ran.returncode} and said {ran.stderr!r}')
+    return ran.stdout

@@ -1,0 +1,195 @@
+"""The document's rules once more, in plain Python: sines, the length of a leg, the route text and its report.
+
+Each rule is written from the document's sentence, which stands above it in quotes, and not from the Rattle definitions. So the tests hold
+the compiled code to a second reading of the same page. Nothing here is quick.
+"""
+import math
+import re
+
+from sine import ENTRIES
+
+DEGREE = 10_000_000  # "a tick is one ten-millionth of a degree"
+QUARTER, HALF_TURN, TURN = 90 * DEGREE, 180 * DEGREE, 360 * DEGREE
+STEP = 200_000  # ticks from one entry of the table to the next
+SHORT_UNIT = 10**9  # the short sine of 90 degrees
+
+MOST_BYTES = 60_000
+MOST_POINTS = 1_000
+
+
+# Angles and sines
+
+def long_sine(angle):
+    # "A negative angle gives the negative of its opposite."
+    if angle < 0:
+        return -long_sine(-angle)
+    # "at 90 degrees the last entry"
+    if angle == QUARTER:
+        return ENTRIES[-1]
+    # "with k = a / 200,000 and f the remainder, entry k plus the floor of f × (entry k+1 - entry k) / 200,000"
+    k, f = divmod(angle, STEP)
+    return ENTRIES[k] + f * (ENTRIES[k + 1] - ENTRIES[k]) // STEP
+
+
+def short_sine(angle):
+    # "long sine divided by 10,000, dropping toward zero"
+    size = abs(long_sine(angle)) // 10_000
+    return -size if angle < 0 else size
+
+
+def short_cosine(latitude):
+    # "the sine, long or short, of 90 degrees less its size"
+    return short_sine(QUARTER - abs(latitude))
+
+
+def latitude_in_range(latitude):
+    # "from -900,000,000 to 900,000,000, both allowed"
+    return -QUARTER <= latitude <= QUARTER
+
+
+def longitude_in_range(longitude):
+    # "from -1,800,000,000, allowed, up to but not including 1,800,000,000"
+    return -HALF_TURN <= longitude < HALF_TURN
+
+
+# Length of a leg
+
+def greatest_angle(r):
+    # "Let u be the greatest angle from 0 to 90 degrees whose short sine is at most r": by halving, as the short sine never falls
+    low, high = 0, QUARTER
+    while low < high:
+        middle = (low + high + 1) // 2
+        if short_sine(middle) <= r:
+            low = middle
+        else:
+            high = middle - 1
+    return low
+
+
+def leg(latitude, longitude, latitude2, longitude2):
+    """The millimetres from one point to another."""
+    # "Let p be half the size of the latitude difference, dropping a half."
+    p = abs(latitude - latitude2) // 2
+    # "Let q be half of the smaller of d and 3,600,000,000 - d, dropping a half, where d is the size of the longitude difference."
+    d = abs(longitude - longitude2)
+    q = min(d, TURN - d) // 2
+    # "Let m be the product of the two short cosines divided by 10^9, floored."
+    m = short_cosine(latitude) * short_cosine(latitude2) // SHORT_UNIT
+    # "H = (short sine of p)² + floor(m × (short sine of q)² / 10^9), the last product exact before the division."
+    h = short_sine(p)**2 + m * short_sine(q)**2 // SHORT_UNIT
+    # "Let r be the greatest whole number whose square is at most H."
+    r = math.isqrt(h)
+    # "The arc is 2u ticks. Its length is arc × 111,194,927 / 10,000,000 millimetres, floored."
+    arc = 2 * greatest_angle(r)
+    return arc * 111_194_927 // 10_000_000
+
+
+def length_of(points):
+    """The millimetres of a route; "the leg into the next point not counted" where its third number is 1."""
+    return sum(leg(*a[:2], *b[:2]) for a, b in zip(points, points[1:]) if b[2] == 0)
+
+
+# Route text
+
+class Refused(Exception):
+    """A refusal's number and line."""
+
+
+# "Line 1 is `route`, tab, `point` or `comma`", ended by LF: the mark that it names
+HEADERS = {(b'route\tpoint', True): b'.', (b'route\tcomma', True): b','}
+OTHER = {b'.': b',', b',': b'.'}
+# how many fields follow each kind
+FIELDS = {b't': 1, b'p': 2, b'g': 0}
+
+
+def lines_of(text):
+    """Each line and whether LF ends it. What stands after the last LF is a line only if it is not empty."""
+    *ended, rest = text.split(b'\n')
+    return [(line, True) for line in ended] + ([(rest, False)] if rest else [])
+
+
+def number_of(field, mark, minus, decimals, line):
+    """A number, in units of the last decimal that it may have: "a seventh decimal is a tick, a target's third is a metre"."""
+    # "5: a number holds the mark that the header did not name"
+    if OTHER[mark] in field:
+        raise Refused(5, line)
+    # "an optional minus, one to three digits, then nothing or the named mark with one to seven digits"
+    said = re.fullmatch(rb'(-?)([0-9]{1,3})(?:%b([0-9]{1,%d}))?' % (re.escape(mark), decimals), field)
+    # "A target has no minus"
+    if not said or (said[1] and not minus):
+        raise Refused(4, line)
+    size = int(said[2] + (said[3] or b'').ljust(decimals, b'0'))
+    return -size if said[1] else size
+
+
+def target_of(field, mark, line):
+    """The millimetres of a target in kilometres: "no minus and at most three decimals"."""
+    return 1000 * number_of(field, mark, minus=False, decimals=3, line=line)
+
+
+def place_of(latitude, longitude, mark, line):
+    """A point's latitude and longitude: "the fields from the left, each 5, 4, then 6 or 7"."""
+    latitude = number_of(latitude, mark, minus=True, decimals=7, line=line)
+    if not latitude_in_range(latitude):
+        raise Refused(6, line)
+    longitude = number_of(longitude, mark, minus=True, decimals=7, line=line)
+    if not longitude_in_range(longitude):
+        raise Refused(7, line)
+    return latitude, longitude
+
+
+def route_of(text):
+    """A text's points, three numbers each, and its target's millimetres or None. "1 first; then the first bad line from the top"."""
+    if len(text) > MOST_BYTES:
+        raise Refused(1, 0)
+    lines = lines_of(text)
+    # "line 1 missing, without LF or other than the two headers"
+    if not lines or lines[0] not in HEADERS:
+        raise Refused(2, 1)
+    mark = HEADERS[lines[0]]
+    points, target, before = [], None, b'route'
+    for line, (words, ended) in enumerate(lines[1:], start=2):
+        kind, *fields = words.split(b'\t')
+        # "in a line 3 (2 for line 1), 8, 9, then the fields": "an unknown kind, the wrong number of fields, or no LF"
+        if FIELDS.get(kind) != len(fields) or not ended:
+            raise Refused(3, line)
+        # "`t`: only as line 2, at most once"; "`g` is judged by the line before it, which must be a `p` line"
+        if (kind == b't' and line != 2) or (kind == b'g' and before != b'p'):
+            raise Refused(8, line)
+        # "the 1,001st `p` line"
+        if kind == b'p' and len(points) == MOST_POINTS:
+            raise Refused(9, line)
+        if kind == b't':
+            target = target_of(*fields, mark, line)
+        if kind == b'p':
+            # "latitude, longitude, and 1 for the first point and after `g`, else 0"
+            points.append((*place_of(*fields, mark, line), 0 if before == b'p' else 1))
+        before = kind
+    # "A `g` that ends the text is refused after all lines": it "names its own line"
+    if before == b'g':
+        raise Refused(8, len(lines))
+    return points, target
+
+
+def read(text, buffer):
+    """The reader: (refusal, line, points, has_target, length, target), where refusal 0 is none, and the points in the lent buffer."""
+    try:
+        points, target = route_of(text)
+        # "then 10": "buffer shorter than 3n (line 0)"
+        if len(buffer) < 3 * len(points):
+            raise Refused(10, 0)
+    except Refused as refused:
+        # "A refusal gives zero in every value beside its number (and line) and writes to no lent buffer"
+        return (*refused.args, 0, 0, 0, 0)
+    # "it writes three numbers a point"; "the rest of the buffer is unchanged"
+    buffer[:3 * len(points)] = [number for point in points for number in point]
+    # "its millimetres (0 if none), and line 0"
+    return 0, 0, len(points), int(target is not None), length_of(points), target or 0
+
+
+def report(text):
+    """What the program `routereport` prints. It has room for every route."""
+    refusal, line, points, has_target, length, target = read(text, [0] * (3 * MOST_POINTS))
+    if refusal:
+        return b'refused\t%d\t%d\n' % (refusal, line)
+    return b'points\t%d\nlength\t%d\ntarget\t%b\n' % (points, length, b'%d' % target if has_target else b'none')
