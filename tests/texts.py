@@ -1,8 +1,9 @@
 """Random route texts: mostly a good route that one or two changes spoil, and some noise."""
 import itertools
 
+from model import HALF_TURN, QUARTER
+
 MARKS = {b'route\tpoint\n': b'.', b'route\tcomma\n': b','}
-QUARTER, HALF_TURN = 900_000_000, 1_800_000_000
 # ticks at which something changes: signs, ranges, and where 32 bits end
 EDGES = [0, 1, 2, 3, 5_000_000, 899_999_999, 900_000_000, 900_000_001, 1_799_999_999, 1_800_000_000, 1_800_000_001, 2_147_483_648,
          4_294_967_295, 4_294_967_296, 4_294_967_297, 9_999_999_999]

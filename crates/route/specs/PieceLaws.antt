@@ -29,7 +29,7 @@ onward s a = take (length s - a) (drop a s)
 pub onward-drop : (s : List ℕ) (a : ℕ) → onward s a ≡ drop a s
 onward-drop s a = take-all (length s - a) (drop a s) (le-of-eq (length-drop a s))
 
-pub length-onward : (s : List ℕ) (a : ℕ) → length (onward s a) ≡ length s - a
+length-onward : (s : List ℕ) (a : ℕ) → length (onward s a) ≡ length s - a
 length-onward s a = rw (onward-drop s a) (length-drop a s)
 
 -- what stands after a byte of s is shorter

@@ -17,6 +17,7 @@ use Rattle.route.specs.declared.Mark.{Mark}
 use Rattle.route.specs.declared.Header.the-variants as H
 use Rattle.route.specs.declared.Target.{Target}
 use Rattle.route.specs.declared.Target.the-variants as T
+use Rattle.route.specs.declared.Reading.{Reading}
 use Rattle.route.specs.declared.Reading.the-variants as R
 use Rattle.route.specs.declared.lines.Line.{Line}
 use Rattle.route.specs.declared.lines.Line.the-variants as L
@@ -27,6 +28,7 @@ use Rattle.route.specs.Pieces.{LF, TAB, onto, split, indexOf, holds, isB
 use Rattle.route.specs.PieceLaws.{by-test, split-some}
 use Rattle.route.specs.Line.{isFirst, tByte, pByte, gByte, lineOf, fresh, afterOf}
 use Rattle.route.specs.Route.{routePoint, routeComma, headerOf, judgedOf, pointsOf, readingOf, bufferOf}
+use Rattle.route.specs.Paper.{ReadingPaper, readingPaper}
 use Rattle.route.specs.RouteLaws.{false-true, Passed, passed, counted, Accepted, accepted-text, points-of, ReadingSays, reading-says}
 use Rattle.route.specs.RouteLaws as Laws
 use Rattle.route.specs.LineLaws.{LineSays, line-says}
@@ -93,6 +95,30 @@ allRead (l ∷ ls) = isRead l && allRead ls
 pub refusal-leaves : (text : List ℕ) (buffer : List ℤ) {n line : ℕ} → readingOf text (length buffer) ≡ R.Refused n line → bufferOf text buffer ≡ buffer
 unfolding bufferOf
 refusal-leaves text buffer e = rw e
+
+-- ---- a refused read, in the paper's own numbers
+
+-- "A refusal gives zero in every value beside its number (and line)"
+pub record Zeros (p : ReadingPaper) : Type 0 where
+  pub points : p .points ≡ 0
+  pub length : p .length ≡ 0
+  pub no-target : p .hasTarget ≡ false
+  pub target : p .target ≡ 0
+
+pub record RefusedRead (text : List ℕ) (buffer : List ℤ) : Type 0 where
+  pub zeros : Zeros (readingPaper (readingOf text (length buffer)))
+  pub left : bufferOf text buffer ≡ buffer
+
+-- where the paper's number is not 0, all else is zero and the buffer is as it was
+pub refused-read : (text : List ℕ) (buffer : List ℤ) → 1 ≤ readingPaper (readingOf text (length buffer)) .refusal → RefusedRead text buffer
+refused-read text buffer = go (readingOf text (length buffer)) refl
+  where
+    go : (r : Reading) → readingOf text (length buffer) ≡ r → 1 ≤ readingPaper r .refusal → RefusedRead text buffer
+    go (R.Route n mm target) e h = absurd (omega arith)
+    go (R.Refused n line) e h =
+        record { zeros = rw e (record { points = refl; length = refl; no-target = refl; target = refl }); left = refusal-leaves text buffer e }
+
+-- ---- an accepted text
 
 -- what stands behind a route that is answered
 record Routed (text : List ℕ) (room n mm : ℕ) (target : Target) : Type 0 where

@@ -37,7 +37,7 @@ use Rattle.route.specs.Route.{mostBytes, endOf, onLine, judgeFrom, point
 pub false-true : {P : Type 0} → false ≡ true → P
 false-true e = let z : _≡_ {A = ℕ} 0 1 = cc in absurd (omega arith)
 
-pub refused-accepted : {P : Type 0} {n line : ℕ} {st : State} → J.Refused n line ≡ J.Accepted st → P
+refused-accepted : {P : Type 0} {n line : ℕ} {st : State} → J.Refused n line ≡ J.Accepted st → P
 refused-accepted e = let z : _≡_ {A = ℕ} 0 1 = cc in absurd (omega arith)
 
 -- ---- the lines of an accepted text, each read as a kind, from the state before it to the one that they leave
@@ -118,7 +118,7 @@ module _ (mark : Mark) (line : ℕ) (ss : List (List ℕ)) (st : State) (e : jud
   pub few : st .points ≤ mostPoints
   few = passed-few all-passed (omega arith)
 
-  pub all-counted : count (pointsFrom mark ss fresh) ≡ st .points
+  all-counted : count (pointsFrom mark ss fresh) ≡ st .points
   all-counted = omega (arith, counted)
 
   points : Points 0 (pointsFrom mark ss fresh)

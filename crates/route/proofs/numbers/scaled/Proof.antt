@@ -1,5 +1,6 @@
 -- `scaled` meets its contract. The loop's invariant: `x` is `n` times ten to the `i`.
--- The measure is what is left of `tens`. Assumes nothing.
+-- The measure is what is left of `tens`.
+-- Assumes nothing.
 use mathlib.Core.Path.{_≡_}
 use Prim.Native.Nat.{suc, _-_, _*_, _^_, _≤_}
 use native.Mathlib.Nat.{mul-le-mul-left, pow-suc, pow-le-pow-right}
