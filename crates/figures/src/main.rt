@@ -1,5 +1,7 @@
 // Runs the figures that the documents give, and prints one answer a line; the file stdout has what the documents say.
 // A refusal prints its number behind `refused`. Angles are in ticks.
+mod pens;
+
 use globe::Length;
 use globe::Place;
 use globe::Point;
@@ -355,4 +357,5 @@ fn main() {
     long_buffers();
     routes();
     route_refusals();
+    pens::all();
 }

@@ -31,6 +31,13 @@ pub cosine-pole : (lat : ℤ) → natAbs lat ≡ quarter → shortCosine lat ≡
 unfolding shortCosine
 cosine-pole lat e = rw (e, longSine-zero)
 
+-- one cosine north and south
+pub cosine-mirror : (lat : ℤ) → shortCosine (negℤ lat) ≡ shortCosine lat
+unfolding shortCosine
+cosine-mirror (pos zero) = refl
+cosine-mirror (pos (suc n)) = refl
+cosine-mirror (negsuc n) = refl
+
 -- dropping toward zero keeps the sign
 quot-as : (z : ℤ) (n k : ℕ) → quotZ (signAs z n) (pos k) ≡ signAs z (n / k)
 quot-as (pos m) n k = refl

@@ -13,3 +13,4 @@ pub mod Buffer
 pub mod BufferLaws
 pub mod Paper
 pub mod Unique
+pub mod Figures

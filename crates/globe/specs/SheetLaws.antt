@@ -24,7 +24,7 @@ use Rattle.globe.specs.declared.Point.the-variants as Q
 use Rattle.globe.specs.Refusal.{PLACE}
 use Rattle.globe.specs.Choice.{unless, if_then_else_}
 use Rattle.globe.specs.Ticks.{isLatitude, isLongitude, accepted, turned, offsetOf, pointRefusal, sheetRefusal}
-use Rattle.globe.specs.TickLaws.{and-true, true-and, latitude-size, size-latitude, is-longitude, offset-longitude, sum-longitude, turn-back, back-turn, no-offset}
+use Rattle.globe.specs.TickLaws.{and-true, true-and, latitude-size, size-latitude, is-longitude, offset-longitude, sum-longitude, turn-back, back-turn, no-offset, sheet-accepted}
 use Rattle.globe.specs.Sheet.{Sheet, withSign, cylinder, sinusoid, placed, placeOf, cylindricalOf, sinusoidalOf, atPole, isExact, offPole, pointAt, pointFrom, backOf, cylindricalBackOf, sinusoidalBackOf}
 use Rattle.globe.specs.Angle.{signedLongSine}
 use Rattle.globe.specs.AngleLaws.{cosine-off, cosine-pole}
@@ -106,6 +106,20 @@ module _ (s : Sheet) where
         go true true h = refl
         go true false h = absurd h
         go false b h = absurd h
+
+  -- what a place tells: nothing was out of range, and x and y are the sheet's
+  abbrev pub Told : ℤ → ℤ → ℤ → ℤ → ℤ → Type 0
+  Told lat lon meridian x y =
+      (isLongitude meridian ≡ true) × (accepted lat lon ≡ true) × (x ≡ offsetOf lon meridian *ℤ pos (s .width lat)) × (y ≡ s .height lat)
+
+  pub place-tells : (lat lon meridian : ℤ) {x y : ℤ} → placeOf s lat lon meridian ≡ P.At x y → Told lat lon meridian x y
+  unfolding placeOf
+  place-tells lat lon meridian {x} {y} e = go (sheetRefusal lat lon meridian) refl e
+    where
+      go : (n : ℕ) → sheetRefusal lat lon meridian ≡ n → placed n (P.At (offsetOf lon meridian *ℤ pos (s .width lat)) (s .height lat)) ≡ P.At x y
+          → Told lat lon meridian x y
+      go zero r e = let a = sheet-accepted lat lon meridian r in (a .0, true-and (a .1) (a .2), sym (same-x e), sym (same-y e))
+      go (suc n) r e = let z : _≡_ {A = ℕ} 0 1 = cc in absurd (omega arith)
 
   -- ---- there and back
 

@@ -4,10 +4,10 @@
 use mathlib.Core.Path.{_≡_, refl, sym, ap, _∙_}
 use mathlib.Core.Bool.{Bool, true, false, cond}
 use Prim.Native.Nat.{ℕ, zero, suc, _+_, _-_, _*_, _/_, _≤_, _<_, min}
-use native.Mathlib.Nat.{zero-div, mul-div-cancel}
+use native.Mathlib.Nat.{zero-mul, zero-div, mul-div-cancel}
 use native.Mathlib.Omega.{arith}
 use lib.Dec.{ltb}
-use lib.IntN.{ℤ, pos, negsuc, negℤ, natAbs, subℕ, _+ℤ_, _-ℤ_, _*ℤ_, +ℤ-idl}
+use lib.IntN.{ℤ, pos, negsuc, negℤ, negℤ-negℤ, natAbs, subℕ, _+ℤ_, _-ℤ_, _*ℤ_, +ℤ-idl}
 use lib.Signed.{quotZ}
 use borrow.Author.Tests.{ltb-true, ltb-false}
 
@@ -99,3 +99,14 @@ quot-mul a {k} h =
     let u = quot-above b k ∙ ap (λ (n : ℕ). n / k) (mul-above a k) ∙ mul-div-cancel (above a) h in
     let d = quot-below b k ∙ ap (λ (n : ℕ). n / k) (mul-below a k) ∙ mul-div-cancel (below a) h in
     same (quotZ b (pos k)) a (omega arith)
+
+-- products and quotients mirror
+pub mul-neg : (z : ℤ) (k : ℕ) → negℤ z *ℤ pos k ≡ negℤ (z *ℤ pos k)
+mul-neg (pos zero) k = rw zero-mul
+mul-neg (pos (suc n)) k = refl
+mul-neg (negsuc n) k = sym (negℤ-negℤ (pos (suc n * k)))
+
+pub quot-neg : (z : ℤ) (k : ℕ) → quotZ (negℤ z) (pos k) ≡ negℤ (quotZ z (pos k))
+quot-neg (pos zero) k = rw zero-div
+quot-neg (pos (suc n)) k = refl
+quot-neg (negsuc n) k = sym (negℤ-negℤ (pos (suc n / k)))

@@ -5,3 +5,4 @@ pub mod SineLaws
 pub mod Greatest
 pub mod Back
 pub mod BackLaws
+pub mod Figures

@@ -1,0 +1,10 @@
+pub mod Refusal
+pub mod Position
+pub mod PositionLaws
+pub mod Reach
+pub mod Pen
+pub mod PenLaws
+pub mod Figures
+pub mod Paper
+pub mod Promises
+pub mod Unique
