@@ -1,4 +1,4 @@
-"""Runs a program that rt check has built, as rt itself does: under the kit's loader and C library, and under the kit's emulator where it
+"""Runs a program that was built, as rt itself does: under the kit's loader and C library, and under the kit's emulator where it
 has one. Programs are for x86-64; the kit for Arm has the emulator, so the same words serve on both kinds of machine."""
 import functools
 import os
@@ -9,16 +9,26 @@ ROOT = pathlib.Path(__file__).resolve().parent.parent
 
 
 @functools.lru_cache(maxsize=None)
-def command(program):
-    """The words that start a program."""
-    path = ROOT / 'target/bin' / program
-    if not path.is_file():
-        raise FileNotFoundError(f'target/bin/{program} is not there: rt check builds it')
+def tools():
+    """The kit's folder for this machine: compiler and linker in bin; loader, C library and what a program starts with in lib."""
     guide = subprocess.run(['rt', 'doc'], check=True, capture_output=True, text=True).stdout.strip()
     # the guide is docs/START-HERE.md of the kit
-    tools = pathlib.Path(guide).parent.parent / 'on' / os.uname().machine / 'toolchain'
-    emulator = tools / 'bin/qemu-x86_64'
-    return [*([emulator] if emulator.exists() else []), tools / 'lib/ld-linux-x86-64.so.2', '--library-path', tools / 'lib', path]
+    return pathlib.Path(guide).parent.parent / 'on' / os.uname().machine / 'toolchain'
+
+
+def under_target(name, maker):
+    """A file that the kit has made under target/."""
+    path = ROOT / 'target' / name
+    if not path.is_file():
+        raise FileNotFoundError(f'target/{name} is not there: {maker} builds it')
+    return path
+
+
+def command(program):
+    """The words that start a program: one that rt check has built, by its name, or any, by its path."""
+    path = program if isinstance(program, pathlib.Path) else under_target(f'bin/{program}', 'rt check')
+    emulator = tools() / 'bin/qemu-x86_64'
+    return [*([emulator] if emulator.exists() else []), tools() / 'lib/ld-linux-x86-64.so.2', '--library-path', tools() / 'lib', path]
 
 
 def run(program, given=b''):

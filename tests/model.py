@@ -1,4 +1,5 @@
-"""The document's rules once more, in plain Python: sines, the length of a leg, the route text and its report.
+"""The document's rules once more, in plain Python: sines, the two sheets, the length of a leg, the route text and its report, the pen, and
+the doors for C over all of these.
 
 Each rule is written from the document's sentence, which stands above it in quotes, and not from the Rattle definitions. So the tests hold
 the compiled code to a second reading of the same page. Nothing here is quick.
@@ -12,9 +13,28 @@ DEGREE = 10_000_000  # "a tick is one ten-millionth of a degree"
 QUARTER, HALF_TURN, TURN = 90 * DEGREE, 180 * DEGREE, 360 * DEGREE
 STEP = 200_000  # ticks from one entry of the table to the next
 SHORT_UNIT = 10**9  # the short sine of 90 degrees
+MILLIMETRES = 111_194_927  # in a degree of a great circle
 
 MOST_BYTES = 60_000
 MOST_POINTS = 1_000
+MOST_DIVISOR = 1_000_000
+
+
+def dropped(number, by):
+    """A quotient, "dropping toward zero": west is as east."""
+    size = abs(number) // by
+    return -size if number < 0 else size
+
+
+def greatest(low, high, holds):
+    """The greatest number from low to high for which something holds that never holds again once it fails; low if there is none."""
+    while low < high:
+        middle = (low + high + 1) // 2
+        if holds(middle):
+            low = middle
+        else:
+            high = middle - 1
+    return low
 
 
 # Angles and sines
@@ -33,8 +53,7 @@ def long_sine(angle):
 
 def short_sine(angle):
     # "long sine divided by 10,000, dropping toward zero"
-    size = abs(long_sine(angle)) // 10_000
-    return -size if angle < 0 else size
+    return dropped(long_sine(angle), 10_000)
 
 
 def short_cosine(latitude):
@@ -52,18 +71,60 @@ def longitude_in_range(longitude):
     return -HALF_TURN <= longitude < HALF_TURN
 
 
+# Two sheets
+
+def turned(angle):
+    # "plus or minus a full turn where needed so that it lies in the longitude range"
+    if angle < -HALF_TURN:
+        return angle + TURN
+    if angle >= HALF_TURN:
+        return angle - TURN
+    return angle
+
+
+def offset_of(longitude, meridian):
+    # "longitude minus central meridian"
+    return turned(longitude - meridian)
+
+
+def cylindrical(latitude, longitude, meridian):
+    # "x = offset in ticks; y = long sine of the latitude"
+    return offset_of(longitude, meridian), long_sine(latitude)
+
+
+def sinusoidal(latitude, longitude, meridian):
+    # "x = offset × short cosine, nothing dropped; y = latitude in ticks"
+    return offset_of(longitude, meridian) * short_cosine(latitude), latitude
+
+
+def only_there(sheet, latitude, longitude, meridian, place):
+    """The point, if it is one and goes to the place; otherwise None."""
+    # "It answers the point that goes there"
+    if latitude_in_range(latitude) and longitude_in_range(longitude) and sheet(latitude, longitude, meridian) == place:
+        return latitude, longitude
+    return None
+
+
+def cylindrical_back(x, y, meridian):
+    # "Long sine .. is strictly increasing over ticks": no other latitude can go there
+    latitude = greatest(-QUARTER, QUARTER, lambda angle: long_sine(angle) <= y)
+    return only_there(cylindrical, latitude, turned(x + meridian), meridian, (x, y))
+
+
+def sinusoidal_back(x, y, meridian):
+    if not latitude_in_range(y):
+        return None
+    # "The short cosine is at least 1 everywhere off the poles." "At a sinusoidal pole the place is x = 0, and the answer is the central
+    # meridian's own longitude."
+    offset = 0 if abs(y) == QUARTER else x // short_cosine(y)
+    return only_there(sinusoidal, y, turned(offset + meridian), meridian, (x, y))
+
+
 # Length of a leg
 
 def greatest_angle(r):
-    # "Let u be the greatest angle from 0 to 90 degrees whose short sine is at most r": by halving, as the short sine never falls
-    low, high = 0, QUARTER
-    while low < high:
-        middle = (low + high + 1) // 2
-        if short_sine(middle) <= r:
-            low = middle
-        else:
-            high = middle - 1
-    return low
+    # "Let u be the greatest angle from 0 to 90 degrees whose short sine is at most r": the short sine never falls
+    return greatest(0, QUARTER, lambda angle: short_sine(angle) <= r)
 
 
 def leg(latitude, longitude, latitude2, longitude2):
@@ -81,7 +142,7 @@ def leg(latitude, longitude, latitude2, longitude2):
     r = math.isqrt(h)
     # "The arc is 2u ticks. Its length is arc × 111,194,927 / 10,000,000 millimetres, floored."
     arc = 2 * greatest_angle(r)
-    return arc * 111_194_927 // 10_000_000
+    return arc * MILLIMETRES // DEGREE
 
 
 def length_of(points):
@@ -193,3 +254,111 @@ def report(text):
     if refusal:
         return b'refused\t%d\t%d\n' % (refusal, line)
     return b'points\t%d\nlength\t%d\ntarget\t%b\n' % (points, length, b'%d' % target if has_target else b'none')
+
+
+# The pen
+
+OUTSIDE, MOVE, LINE = 0, 1, 2
+UP, DOWN = 0, 1
+
+
+def position(latitude, longitude, meridian):
+    """A point's X and Y, in millimetres on the sinusoidal sheet."""
+    x, y = sinusoidal(latitude, longitude, meridian)
+    # "X is x / 10^9 dropping toward zero, then × 111,194,927 / 10,000,000 dropping toward zero"
+    # "Y is latitude × 111,194,927 / 10,000,000 likewise"
+    return dropped(dropped(x, SHORT_UNIT) * MILLIMETRES, DEGREE), dropped(y * MILLIMETRES, DEGREE)
+
+
+def inside(x, y, left, right, bottom, top):
+    # "X lies from left to right and Y from bottom to top, edges counted in, with X and Y as floats before the division"
+    return left <= float(x) <= right and bottom <= float(y) <= top
+
+
+def stroke_of(pen, third):
+    # "Line if the pen was down and the point's third number is 0, otherwise Move (any other third number counts as 1)"
+    return LINE if pen != UP and third == 0 else MOVE
+
+
+def drawn(pen, window, divisor, meridian, latitude, longitude, third):
+    """A step that is not refused: its stroke, two floats and the next pen."""
+    x, y = position(latitude, longitude, meridian)
+    if not inside(x, y, *window):
+        # "Outside: the pen is up next."
+        return OUTSIDE, 0.0, 0.0, UP
+    # "each as a float, divided once by the divisor as a float"; "the pen is down next"
+    return stroke_of(pen, third), float(x) / float(divisor), float(y) / float(divisor), DOWN
+
+
+# The doors for C: each answers the fields of its struct in senruhobi.h. "A refusal gives zero in every value beside its number (and line)".
+
+def bad_point(latitude, longitude):
+    # "6: latitude out of range", "7: longitude out of range"; 0 is none
+    if not latitude_in_range(latitude):
+        return 6
+    return 0 if longitude_in_range(longitude) else 7
+
+
+def bad_meridian(meridian):
+    # "Longitude and central meridian run from .."; "14: central meridian out of range"
+    return 0 if longitude_in_range(meridian) else 14
+
+
+def bad_window(left, right, bottom, top):
+    # "12: an edge is NaN, left is not below right, or bottom is not below top"
+    if any(math.isnan(edge) for edge in (left, right, bottom, top)) or not left < right or not bottom < top:
+        return 12
+    return 0
+
+
+def bad_divisor(divisor):
+    # "13: divisor outside 1 to 1,000,000"
+    return 0 if 1 <= divisor <= MOST_DIVISOR else 13
+
+
+def sine_door(sine, angle):
+    # "6: latitude (or an angle for sine) out of range"
+    return (0, sine(angle)) if latitude_in_range(angle) else (6, 0)
+
+
+def sheet_door(sheet, latitude, longitude, meridian):
+    # "Sheets: 14, 6, 7."
+    refusal = bad_meridian(meridian) or bad_point(latitude, longitude)
+    return (refusal, 0, 0) if refusal else (0, *sheet(latitude, longitude, meridian))
+
+
+def back_door(back, x, y, meridian):
+    # "Back: 14, 11."
+    if bad_meridian(meridian):
+        return 14, 0, 0
+    point = back(x, y, meridian)
+    # "11: no accepted point has this place"
+    return (0, *point) if point else (11, 0, 0)
+
+
+def leg_door(latitude, longitude, latitude2, longitude2):
+    # "Length: 6 and 7 of the first point, then of the second."
+    refusal = bad_point(latitude, longitude) or bad_point(latitude2, longitude2)
+    return (refusal, 0) if refusal else (0, leg(latitude, longitude, latitude2, longitude2))
+
+
+def pen_door(pen, left, right, bottom, top, divisor, meridian, latitude, longitude, third):
+    # "Pen step: 12, 13, 14, 6, 7."
+    refusal = bad_window(left, right, bottom, top) or bad_divisor(divisor) or bad_meridian(meridian) or bad_point(latitude, longitude)
+    if refusal:
+        # "the pen step hands back the pen it got"
+        return refusal, 0, 0.0, 0.0, pen
+    return (0, *drawn(pen, (left, right, bottom, top), divisor, meridian, latitude, longitude, third))
+
+
+DOORS = {
+    'long_sine': lambda angle: sine_door(long_sine, angle),
+    'short_sine': lambda angle: sine_door(short_sine, angle),
+    'cylindrical': lambda *point: sheet_door(cylindrical, *point),
+    'sinusoidal': lambda *point: sheet_door(sinusoidal, *point),
+    'cylindrical_back': lambda *place: back_door(cylindrical_back, *place),
+    'sinusoidal_back': lambda *place: back_door(sinusoidal_back, *place),
+    'leg': leg_door,
+    'read_route': read,
+    'pen_step': pen_door,
+}

@@ -2,14 +2,15 @@
 
 A function with a local of several pages reaches its frame's end by a loop that counts in r11. Where the compiler puts that loop behind a
 first return, r11 may hold an argument, and what the function answers is nonsense though it is proved (docs/DECISIONS.md, "The table is
-made first"). So in every program that the gate has built, nothing but pushes may stand before such a loop.
+made first"). So in every program that the gate has built, and in the doors for C, nothing but pushes may stand before such a loop.
 """
-import pathlib
 import re
 import struct
 import unittest
 
-ROOT = pathlib.Path(__file__).resolve().parent.parent
+import built
+import doors
+
 PROBE = bytes.fromhex('4989e3 4981eb')  # mov r11, rsp; sub r11, the frame's pages
 PUSHES = re.compile(rb'(?:[\x50-\x57]|\x41[\x50-\x57])*')
 
@@ -39,17 +40,15 @@ def late(code):
 
 class Frames(unittest.TestCase):
     def test_every_large_frame_is_set_up_first(self):
-        programs = [line.split(':')[0] for line in (ROOT / 'crates.txt').read_text(encoding='utf-8').split('\n')
-                    if (ROOT / 'crates' / line.split(':')[0] / 'src/main.rt').is_file()]
+        programs = [line.split(':')[0] for line in (built.ROOT / 'crates.txt').read_text(encoding='utf-8').split('\n')
+                    if (built.ROOT / 'crates' / line.split(':')[0] / 'src/main.rt').is_file()]
         self.assertNotEqual(programs, [])
-        large = 0
-        for program in programs:
-            built = ROOT / 'target/bin' / program
-            self.assertTrue(built.is_file(), f'{built} is not there: rt check builds it')
-            for name, code in functions(built.read_bytes()):
+        for path in [*(built.under_target(f'bin/{program}', 'rt check') for program in programs), doors.driver()]:
+            large = 0
+            for name, code in functions(path.read_bytes()):
                 large += PROBE in code
-                self.assertFalse(late(code), f'{program}: {name}')
-        self.assertGreater(large, 0)  # the functions that make the table, at the least
+                self.assertFalse(late(code), f'{path.name}: {name}')
+            self.assertGreater(large, 0)  # the functions that make the table, at the least
 
     def test_a_late_frame_is_seen(self):
         frame = PROBE + bytes.fromhex('00800000')

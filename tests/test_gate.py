@@ -15,7 +15,7 @@ def script(path, text):
     path.chmod(0o755)
 
 
-def gate(ci='echo "5 passed, 0 failed"', fmt=':', tests='echo "3 passed, 0 failed"', rt=True):
+def gate(ci='echo "5 passed, 0 failed"', fmt=':', staticlib=':', tests='echo "3 passed, 0 failed"', rt=True):
     """The gate's status and last line, over an `rt` and a tests/run that do what is said."""
     with tempfile.TemporaryDirectory() as room:
         room = pathlib.Path(room)
@@ -23,7 +23,7 @@ def gate(ci='echo "5 passed, 0 failed"', fmt=':', tests='echo "3 passed, 0 faile
         shutil.copy(GATE, room / '.ci/run')
         script(room / 'tests/run', tests)
         if rt:
-            script(room / 'bin/rt', f'if [ "$1" = ci ]; then {ci}; else {fmt}; fi')
+            script(room / 'bin/rt', f'case $1 in ci) {ci};; fmt) {fmt};; staticlib) {staticlib};; *) exit 2;; esac')
         else:
             # the PATH then holds what the gate calls, and no rt
             (room / 'bin').mkdir()
@@ -41,17 +41,18 @@ class Gate(unittest.TestCase):
 
     def test_all_parts_are_counted(self):
         status, lines = gate()
-        self.assertEqual((status, lines[-1]), (0, '9 passed, 0 failed'))
+        self.assertEqual((status, lines[-1]), (0, '10 passed, 0 failed'))
 
     def test_a_part_that_fails_fails_the_gate(self):
-        self.refuses('8 passed, 1 failed', ci='echo "4 passed, 1 failed"; exit 1')
-        self.refuses('8 passed, 1 failed', fmt='exit 1')
-        self.refuses('7 passed, 2 failed', tests='echo "1 passed, 2 failed"; exit 1')
+        self.refuses('9 passed, 1 failed', ci='echo "4 passed, 1 failed"; exit 1')
+        self.refuses('9 passed, 1 failed', fmt='exit 1')
+        self.refuses('9 passed, 1 failed', staticlib='exit 1')
+        self.refuses('8 passed, 2 failed', tests='echo "1 passed, 2 failed"; exit 1')
 
     def test_a_part_that_breaks_off_fails_the_gate(self):
-        self.refuses('4 passed, 1 failed', ci='echo "rt: no crates.txt"; exit 2')
-        self.refuses('9 passed, 1 failed', ci='echo "5 passed, 0 failed"; exit 3')
-        self.refuses('6 passed, 1 failed', tests='exit 0')
+        self.refuses('5 passed, 1 failed', ci='echo "rt: no crates.txt"; exit 2')
+        self.refuses('10 passed, 1 failed', ci='echo "5 passed, 0 failed"; exit 3')
+        self.refuses('7 passed, 1 failed', tests='exit 0')
 
     def test_no_kit_is_said_in_one_line(self):
         status, lines = gate(rt=False)

@@ -7,9 +7,9 @@ use Rattle.signed.specs.Sign.{signAs}
 use Rattle.sines.specs.Sine.{quarter, longSine, shortening, shortSine}
 use Rattle.globe.specs.declared.Sine.{Sine}
 use Rattle.globe.specs.declared.Sine.the-variants.{Value, Refused}
-use Rattle.globe.specs.Refusal.{LATITUDE}
-use Rattle.globe.specs.Choice.{unless}
-use Rattle.globe.specs.Ticks.{isLatitude}
+use Rattle.ticks.specs.Refusal.{LATITUDE}
+use Rattle.ticks.specs.Choice.{unless}
+use Rattle.ticks.specs.Ticks.{isLatitude}
 
 -- "A negative angle gives the negative of its opposite."
 abbrev pub signedLongSine : ℤ → ℤ

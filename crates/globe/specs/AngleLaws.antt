@@ -14,8 +14,8 @@ use Rattle.signed.specs.Sign.{signAs, as-size}
 use Rattle.sines.specs.Table.{unit}
 use Rattle.sines.specs.Sine.{quarter, longSine, shortening, shortUnit, shortSine}
 use Rattle.sines.specs.SineLaws.{longSine-zero, longSine-top, longSine-lt, shortSine-top, shortSine-some}
-use Rattle.globe.specs.Ticks.{isLatitude}
-use Rattle.globe.specs.TickLaws.{latitude-size}
+use Rattle.ticks.specs.Ticks.{isLatitude}
+use Rattle.ticks.specs.TickLaws.{latitude-size}
 use Rattle.globe.specs.Angle.{signedLongSine, signedShortSine, shortCosine}
 
 pub cosine-top : (lat : ℤ) → shortCosine lat ≤ shortUnit

@@ -9,8 +9,8 @@ use lib.ListN.{length, getD}
 use Rattle.signed.specs.Tests.{eqZ}
 use Rattle.globe.specs.declared.Length.{Length}
 use Rattle.globe.specs.Refusal.{POINTS, BUFFER}
-use Rattle.globe.specs.Choice.{unless, if_then_else_, firstOf}
-use Rattle.globe.specs.Ticks.{pointRefusal}
+use Rattle.ticks.specs.Choice.{unless, if_then_else_, firstOf}
+use Rattle.ticks.specs.Ticks.{pointRefusal}
 use Rattle.globe.specs.Leg.{legLength, measured}
 
 -- "three numbers a point: latitude, longitude, and 1 for the first point and after `g`, else 0"

@@ -17,9 +17,9 @@ use mir.Val.{toZ, ofZ}
 use Rattle.signed.specs.Tests.{eqZ}
 use Rattle.globe.specs.declared.Length.the-variants.{Millimetres}
 use Rattle.globe.specs.Refusal.{POINTS, BUFFER}
-use Rattle.globe.specs.Choice.{if_then_else_}
-use Rattle.globe.specs.Ticks.{isLatitude, isLongitude, pointRefusal}
-use Rattle.globe.specs.TickLaws.{and-true, true-and, unless-none, first-none, point-accepted, latitude-fits, longitude-fits}
+use Rattle.ticks.specs.Choice.{if_then_else_}
+use Rattle.ticks.specs.Ticks.{isLatitude, isLongitude, pointRefusal}
+use Rattle.ticks.specs.TickLaws.{and-true, true-and, unless-none, first-none, point-accepted, latitude-fits, longitude-fits}
 use Rattle.globe.specs.Leg.{legLength}
 use Rattle.globe.specs.LegLaws.{longest}
 use Rattle.globe.specs.Buffer.{numbers, mostPoints, latitudeAt, longitudeAt, thirdAt, count, thirdFits, thirdsFit, pointsRefusal, bufferRefusal, legInto, lengthUpTo, measureOf}

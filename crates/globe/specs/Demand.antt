@@ -10,7 +10,7 @@ use Rattle.globe.specs.declared.Place.the-variants as P
 use Rattle.globe.specs.declared.Point.{Point}
 use Rattle.globe.specs.declared.Point.the-variants as Q
 use Rattle.globe.specs.Refusal.{PLACE}
-use Rattle.globe.specs.Ticks.{isLongitude, accepted, offsetOf}
+use Rattle.ticks.specs.Ticks.{isLongitude, accepted, offsetOf}
 
 -- the point has a place
 abbrev pub HasPlace : Place → Type 0

@@ -1,15 +1,106 @@
--- Figures of the document, proved about the definitions.
+-- Figures of the document, proved about the definitions. Those about the table alone stand in sines.
 -- Assumes nothing.
-use mathlib.Core.Path.{_≡_, refl, _∙_}
-use lib.IntN.{pos}
-use Rattle.sines.specs.Figures.{long-30}
+use mathlib.Core.Path.{_≡_, refl, ap, _∙_}
+use Prim.Native.Nat.{ℕ, _*_}
+use native.Mathlib.Omega.{arith}
+use lib.IntN.{pos, negℤ}
+use Rattle.sines.specs.Sine.{quarter, shortSine}
+use Rattle.sines.specs.SineLaws.{longSine-zero, longSine-tick, longSine-quarter}
+use Rattle.sines.specs.Back.{greatestAngle}
+use Rattle.sines.specs.Figures.{long-30, long-tenth, greatest-1, greatest-tenth, greatest-90, angle-17454}
 use Rattle.globe.specs.declared.Place.the-variants.{At}
-use Rattle.globe.specs.Ticks.{offsetOf}
-use Rattle.globe.specs.Angle.{shortCosine}
-use Rattle.globe.specs.Sheet.{sinusoid, sinusoidalOf}
-use Rattle.globe.specs.SheetLaws.{place-is}
+use Rattle.globe.specs.declared.Length.the-variants.{Millimetres}
+use Rattle.ticks.specs.Ticks.{offsetOf, pointRefusal}
+use Rattle.globe.specs.Angle.{shortCosine, longSineOf, shortSineOf}
+use Rattle.globe.specs.AngleLaws.{cosine-pole}
+use Rattle.globe.specs.Sheet.{cylinder, sinusoid, cylindricalOf, sinusoidalOf, backOf, cylindricalBackOf, sinusoidalBackOf}
+use Rattle.globe.specs.SheetLaws.{place-is, there-and-back, cylinder-invertible}
+use Rattle.globe.specs.Leg.{chord, millimetres, lengthOf, legLength, legOf}
+use Rattle.globe.specs.LegLaws.{root-is, angle-zero}
+use Rattle.globe.specs.Paper.{sinePaper, placePaper, pointPaper, lengthPaper}
 
--- "sinusoidal, 60° N 10° E: x 5×10^16, y 600,000,000", with meridian 0
+-- ---- sines
+
+-- "long sine of 1 tick is 17,453"
+pub long-1 : sinePaper (longSineOf (pos 1)) ≡ record { refusal = 0; value = pos 17_453 }
+unfolding longSineOf
+long-1 = rw longSine-tick
+
+-- "short sine 1"
+pub short-1 : sinePaper (shortSineOf (pos 1)) ≡ record { refusal = 0; value = pos 1 }
+unfolding shortSineOf
+short-1 = rw longSine-tick
+
+-- ---- the cylindrical sheet, with meridian 0
+
+-- "cylindrical, meridian 0, 30° N 10° E: x 100,000,000, y 5×10^12"
+pub cylindrical-30-10 : placePaper (cylindricalOf (pos 300_000_000) (pos 100_000_000) (pos 0)) ≡ record { refusal = 0; x = pos 100_000_000; y = pos 5_000_000_000_000 }
+unfolding offsetOf
+cylindrical-30-10 = rw (place-is cylinder (pos 300_000_000) (pos 100_000_000) (pos 0) refl refl, long-30)
+
+-- "cylindrical back, (0, 17,453): 1 tick north"
+pub cylindrical-back-17453 : pointPaper (cylindricalBackOf (pos 0) (pos 17_453) (pos 0)) ≡ record { refusal = 0; latitude = pos 1; longitude = pos 0 }
+unfolding offsetOf
+cylindrical-back-17453 =
+    ap pointPaper (there-and-back cylinder cylinder-invertible (pos 1) (pos 0) (pos 0) (pos 0) (pos 17_453) refl refl (place-is cylinder (pos 1) (pos 0) (pos 0) refl refl ∙ rw longSine-tick))
+
+-- "(0, 17,454): 11"
+pub cylindrical-back-17454 : pointPaper (cylindricalBackOf (pos 0) (pos 17_454) (pos 0)) ≡ record { refusal = 11; latitude = pos 0; longitude = pos 0 }
+unfolding backOf
+cylindrical-back-17454 = rw angle-17454
+
+-- ---- the sinusoidal sheet
+
+-- the place itself, before the paper
 pub sinusoidal-60-10 : sinusoidalOf (pos 600_000_000) (pos 100_000_000) (pos 0) ≡ At (pos 50_000_000_000_000_000) (pos 600_000_000)
 unfolding offsetOf shortCosine
 sinusoidal-60-10 = place-is sinusoid (pos 600_000_000) (pos 100_000_000) (pos 0) refl refl ∙ rw long-30
+
+-- "sinusoidal, 60° N 10° E: x 5×10^16, y 600,000,000", with meridian 0
+pub sinusoidal-60-10-paper : placePaper (sinusoidalOf (pos 600_000_000) (pos 100_000_000) (pos 0)) ≡ record { refusal = 0; x = pos 50_000_000_000_000_000; y = pos 600_000_000 }
+sinusoidal-60-10-paper = ap placePaper sinusoidal-60-10
+
+-- "back with x one more: 11"
+pub sinusoidal-back-one-more : pointPaper (sinusoidalBackOf (pos 50_000_000_000_000_001) (pos 600_000_000) (pos 0)) ≡ record { refusal = 11; latitude = pos 0; longitude = pos 0 }
+unfolding backOf shortCosine
+sinusoidal-back-one-more = rw long-30
+
+-- "sinusoidal back (0, 900,000,000), meridian 5° E: 90° N 5° E"
+pub sinusoidal-back-pole : pointPaper (sinusoidalBackOf (pos 0) (pos 900_000_000) (pos 50_000_000)) ≡ record { refusal = 0; latitude = pos 900_000_000; longitude = pos 50_000_000 }
+unfolding backOf
+sinusoidal-back-pole = rw (cosine-pole (pos 900_000_000) refl)
+
+-- "(1, 900,000,000): 11"
+pub sinusoidal-back-beside-pole : pointPaper (sinusoidalBackOf (pos 1) (pos 900_000_000) (pos 50_000_000)) ≡ record { refusal = 11; latitude = pos 0; longitude = pos 0 }
+unfolding backOf
+sinusoidal-back-beside-pole = rw (cosine-pole (pos 900_000_000) refl)
+
+-- ---- lengths
+
+-- of a chord that is a square, by the greatest angle of its root
+length-by : (r : ℕ) {h u : ℕ} → h ≡ r * r → greatestAngle r ≡ u → lengthPaper (Millimetres (lengthOf h)) ≡ record { refusal = 0; millimetres = millimetres (2 * u) }
+length-by r {h} e g = rw (← root-is {h = h} {r = r} (omega arith) (omega arith), g)
+
+-- along a meridian
+north-by : (m p : ℕ) → chord m p 0 ≡ shortSine p * shortSine p
+north-by m p = rw longSine-zero (omega arith)
+
+-- "length from 0,0 to 1 tick north: 0"
+pub length-1-north : lengthPaper (legOf (pos 0) (pos 0) (pos 1) (pos 0)) ≡ record { refusal = 0; millimetres = 0 }
+unfolding legOf legLength pointRefusal
+length-1-north = length-by 0 (north-by _ 0 ∙ rw longSine-zero) angle-zero
+
+-- "to 2 ticks north: 22"
+pub length-2-north : lengthPaper (legOf (pos 0) (pos 0) (pos 2) (pos 0)) ≡ record { refusal = 0; millimetres = 22 }
+unfolding legOf legLength pointRefusal
+length-2-north = length-by 1 (north-by _ 1 ∙ rw longSine-tick) greatest-1
+
+-- "0, 179.9° E to 0, 179.9° W: 22,238,985"
+pub length-across-180 : lengthPaper (legOf (pos 0) (pos 1_799_000_000) (pos 0) (negℤ (pos 1_799_000_000))) ≡ record { refusal = 0; millimetres = 22_238_985 }
+unfolding legOf legLength pointRefusal shortCosine
+length-across-180 = length-by 1_745_328 (rw (longSine-zero, longSine-quarter, long-tenth)) greatest-tenth
+
+-- "pole to pole: 20,015,086,860"
+pub length-pole-to-pole : lengthPaper (legOf (pos 900_000_000) (pos 0) (negℤ (pos 900_000_000)) (pos 0)) ≡ record { refusal = 0; millimetres = 20_015_086_860 }
+unfolding legOf legLength pointRefusal
+length-pole-to-pole = length-by 1_000_000_000 (north-by _ quarter ∙ rw longSine-quarter) greatest-90

@@ -8,8 +8,8 @@ use Rattle.sines.specs.Greatest.{greatest}
 use Rattle.sines.specs.Back.{greatestAngle}
 use Rattle.globe.specs.declared.Length.{Length}
 use Rattle.globe.specs.declared.Length.the-variants.{Millimetres, Refused}
-use Rattle.globe.specs.Choice.{firstOf}
-use Rattle.globe.specs.Ticks.{fullTurn, pointRefusal}
+use Rattle.ticks.specs.Choice.{firstOf}
+use Rattle.ticks.specs.Ticks.{fullTurn, pointRefusal}
 use Rattle.globe.specs.Angle.{shortCosine}
 
 -- "half the size of the latitude difference, dropping a half"

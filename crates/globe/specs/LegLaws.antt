@@ -20,8 +20,8 @@ use Rattle.sines.specs.Greatest.{greatest-is}
 use Rattle.sines.specs.Back.{greatestAngle}
 use Rattle.sines.specs.BackLaws.{greatestAngle-meets}
 use Rattle.globe.specs.declared.Length.the-variants.{Millimetres, Refused}
-use Rattle.globe.specs.Ticks.{fullTurn, isLatitude, isLongitude, pointRefusal}
-use Rattle.globe.specs.TickLaws.{latitude, longitude}
+use Rattle.ticks.specs.Ticks.{fullTurn, isLatitude, isLongitude, pointRefusal}
+use Rattle.ticks.specs.TickLaws.{latitude, longitude}
 use Rattle.globe.specs.Angle.{shortCosine}
 use Rattle.globe.specs.AngleLaws.{cosine-top}
 use Rattle.globe.specs.Leg.{halfNorth, halfEast, cosines, chord, rootOf, legLength, measured, legOf}
@@ -112,7 +112,7 @@ leg-both-ways lat lon lat′ lon′ p q = rw (p, q) (ap Millimetres (both-ways l
 none : (a : ℤ) → natAbs (a -ℤ a) ≡ 0
 none a = omega (arith, size-sides (a -ℤ a), sub-sides a a, one-side (a -ℤ a))
 
-angle-zero : greatestAngle 0 ≡ 0
+pub angle-zero : greatestAngle 0 ≡ 0
 angle-zero = omega (arith, past)
   where
     past : 0 < greatestAngle 0 → ⊥

@@ -1,7 +1,4 @@
 pub mod Refusal
-pub mod Choice
-pub mod Ticks
-pub mod TickLaws
 pub mod Angle
 pub mod AngleLaws
 pub mod Sheet
@@ -9,6 +6,7 @@ pub mod Demand
 pub mod SheetLaws
 pub mod Leg
 pub mod LegLaws
+pub mod Newton
 pub mod Buffer
 pub mod BufferLaws
 pub mod Paper

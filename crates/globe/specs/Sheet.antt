@@ -13,9 +13,10 @@ use Rattle.globe.specs.declared.Place.{Place}
 use Rattle.globe.specs.declared.Place.the-variants as P
 use Rattle.globe.specs.declared.Point.{Point}
 use Rattle.globe.specs.declared.Point.the-variants as Q
-use Rattle.globe.specs.Refusal.{PLACE, MERIDIAN}
-use Rattle.globe.specs.Choice.{unless, if_then_else_}
-use Rattle.globe.specs.Ticks.{isLatitude, isLongitude, turned, offsetOf, sheetRefusal}
+use Rattle.ticks.specs.Refusal.{MERIDIAN}
+use Rattle.globe.specs.Refusal.{PLACE}
+use Rattle.ticks.specs.Choice.{unless, if_then_else_}
+use Rattle.ticks.specs.Ticks.{isLatitude, isLongitude, turned, offsetOf, sheetRefusal}
 use Rattle.globe.specs.Angle.{signedLongSine, shortCosine}
 
 -- a sheet is known by what it does with a latitude: how far a tick of offset goes there, its y, and which latitude has a given y

@@ -22,9 +22,9 @@ use Rattle.globe.specs.declared.Place.the-variants as P
 use Rattle.globe.specs.declared.Point.{Point}
 use Rattle.globe.specs.declared.Point.the-variants as Q
 use Rattle.globe.specs.Refusal.{PLACE}
-use Rattle.globe.specs.Choice.{unless, if_then_else_}
-use Rattle.globe.specs.Ticks.{isLatitude, isLongitude, accepted, turned, offsetOf, pointRefusal, sheetRefusal}
-use Rattle.globe.specs.TickLaws.{and-true, true-and, latitude-size, size-latitude, is-longitude, offset-longitude, sum-longitude, turn-back, back-turn, no-offset, sheet-accepted}
+use Rattle.ticks.specs.Choice.{unless, if_then_else_}
+use Rattle.ticks.specs.Ticks.{isLatitude, isLongitude, accepted, turned, offsetOf, pointRefusal, sheetRefusal}
+use Rattle.ticks.specs.TickLaws.{and-true, true-and, latitude-size, size-latitude, is-longitude, offset-longitude, sum-longitude, turn-back, back-turn, no-offset, sheet-accepted}
 use Rattle.globe.specs.Sheet.{Sheet, withSign, cylinder, sinusoid, placed, placeOf, cylindricalOf, sinusoidalOf, atPole, isExact, offPole, pointAt, pointFrom, backOf, cylindricalBackOf, sinusoidalBackOf}
 use Rattle.globe.specs.Angle.{signedLongSine}
 use Rattle.globe.specs.AngleLaws.{cosine-off, cosine-pole}

@@ -1,5 +1,5 @@
 -- "Prove that two results allowed by one statement are equal": each statement says that the result equals a definition, so one law
--- serves them all. The list has an entry for each function of signed, sines and globe that others can call.
+-- serves them all. The list has an entry for each function of signed, sines, ticks and globe that others can call.
 -- Assumes nothing.
 use mathlib.Core.Path.{_≡_, sym, _∙_}
 use mathlib.Core.List.{List}
@@ -8,7 +8,8 @@ use lib.IntN.{ℤ, natAbs}
 use mir.Syntax.{w64}
 use Rattle.signed.specs.Sign.{signAs, nearest}
 use Rattle.sines.specs.Table.{sines}
-use Rattle.globe.specs.Ticks.{isLatitude, isLongitude}
+use Rattle.ticks.specs.Choice.{firstOf}
+use Rattle.ticks.specs.Ticks.{isLatitude, isLongitude, turned, offsetOf, pointRefusal, sheetRefusal}
 use Rattle.globe.specs.Angle.{longSineOf, shortSineOf}
 use Rattle.globe.specs.Sheet.{cylindricalOf, sinusoidalOf, cylindricalBackOf, sinusoidalBackOf}
 use Rattle.globe.specs.Leg.{legOf}
@@ -28,6 +29,11 @@ pub record Unique : Type 0 where
   pub table-of-sines : One sines
   pub is-latitude : (z : ℤ) → One (isLatitude z)
   pub is-longitude : (z : ℤ) → One (isLongitude z)
+  pub into-turn : (d : ℤ) → One (turned d)
+  pub offset : (lon meridian : ℤ) → One (offsetOf lon meridian)
+  pub point-refusal : (lat lon : ℤ) → One (pointRefusal lat lon)
+  pub sheet-refusal : (lat lon meridian : ℤ) → One (sheetRefusal lat lon meridian)
+  pub first-of : (a b : ℕ) → One (firstOf a b)
   pub long-sine : (angle : ℤ) → One (longSineOf angle)
   pub short-sine : (angle : ℤ) → One (shortSineOf angle)
   pub cylindrical : (lat lon meridian : ℤ) → One (cylindricalOf lat lon meridian)
@@ -45,6 +51,11 @@ unique = record {
   table-of-sines = one sines;
   is-latitude = λ z. one (isLatitude z);
   is-longitude = λ z. one (isLongitude z);
+  into-turn = λ d. one (turned d);
+  offset = λ lon meridian. one (offsetOf lon meridian);
+  point-refusal = λ lat lon. one (pointRefusal lat lon);
+  sheet-refusal = λ lat lon meridian. one (sheetRefusal lat lon meridian);
+  first-of = λ a b. one (firstOf a b);
   long-sine = λ angle. one (longSineOf angle);
   short-sine = λ angle. one (shortSineOf angle);
   cylindrical = λ lat lon meridian. one (cylindricalOf lat lon meridian);

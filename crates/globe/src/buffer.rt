@@ -7,9 +7,9 @@ use crate::Length;
 use crate::legs::leg_length;
 use crate::refusal::BUFFER;
 use crate::refusal::POINTS;
-use crate::refusal::first_of;
-use crate::ticks::point_refusal;
 use sines::Entries;
+use ticks::point_refusal;
+use ticks::refusal::first_of;
 
 // How many numbers a point has: latitude, longitude, and 1 where the pen was up before it.
 pub const NUMBERS: usize = 3;

@@ -4,18 +4,18 @@ ghost use mathlib.Core.Bool.{true};
 ghost use Prim.Native.Nat.{_*_, _/_, _≤_};
 ghost use Rattle.sines.specs.Table.{sines};
 ghost use Rattle.sines.specs.Sine.{quarter, shortUnit};
-ghost use Rattle.globe.specs.Ticks.{isLatitude, isLongitude};
+ghost use Rattle.ticks.specs.Ticks.{isLatitude, isLongitude};
 ghost use Rattle.globe.specs.Leg.{halfNorth, halfEast, chord, lengthOf, legLength, legOf};
 use crate::Length;
 use crate::lookup::SHORT_UNIT;
 use crate::lookup::short_cosine;
 use crate::lookup::short_sine_of;
-use crate::refusal::first_of;
 use crate::root::root;
 use crate::search::greatest_angle;
-use crate::ticks::point_refusal;
 use signed::size64;
 use sines::Entries;
+use ticks::point_refusal;
+use ticks::refusal::first_of;
 
 const TURN: u64 = 3_600_000_000;
 

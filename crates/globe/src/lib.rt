@@ -14,7 +14,6 @@ pub mod refusal;
 mod root;
 mod search;
 mod sheet;
-pub mod ticks;
 
 use sines::table_of_sines;
 

@@ -5,14 +5,14 @@ ghost use Prim.Native.Nat.{_≤_};
 ghost use Rattle.sines.specs.Table.{sines, entry};
 ghost use Rattle.sines.specs.Rules.{rows};
 ghost use Rattle.sines.specs.Sine.{quarter, longSine, shortSine};
-ghost use Rattle.globe.specs.Ticks.{isLatitude};
+ghost use Rattle.ticks.specs.Ticks.{isLatitude};
 ghost use Rattle.globe.specs.Angle.{signedLongSine, shortCosine, longSineOf, shortSineOf};
 use crate::Sine;
-use crate::refusal::LATITUDE;
-use crate::ticks::is_latitude;
 use signed::size32;
 use signed::with_sign_of;
 use sines::Entries;
+use ticks::is_latitude;
+use ticks::refusal::LATITUDE;
 
 pub(crate) const ROWS: usize = 4_500;
 

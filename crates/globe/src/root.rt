@@ -1,24 +1,18 @@
-// The whole-number square root, by halving.
+// The whole-number square root, by Newton's steps.
 ghost use mathlib.Core.Path.{_≡_};
 ghost use Prim.Native.Nat.{_≤_};
 ghost use Rattle.globe.specs.Leg.{rootOf};
 
-// A number whose square is past every H: its own square, 2.25 × 10^18, fits.
-const PAST: u64 = 1_500_000_000;
-
+// The greatest number whose square is at most `h`. A step leads from any guess to the root or above it, and from above it down. The first
+// guess is a power of two with half as many bits as `h`, so that its step needs no division.
 pub(crate) fn root(h: u64) -> u64
     requires { ⌜ h ≤ 2_000_000_000_000_000_000 ⌝ }
     ensures { λ r. ⌜ r ≡ rootOf h ⌝ }
 {
-    let mut low: u64 = 0;
-    let mut high: u64 = PAST;
-    while 1 < high - low {
-        let middle = low + (high - low) / 2;
-        if middle * middle <= h {
-            low = middle;
-        } else {
-            high = middle;
-        }
+    let half = (64 - u64::leading_zeros(h)) / 2;
+    let mut r = ((1u64 << half) + (h >> half)) / 2;
+    while h < r * r {
+        r = (r + h / r) / 2;
     }
-    low
+    r
 }

@@ -11,20 +11,20 @@ use crate::lookup::STEP;
 use crate::lookup::entry;
 use sines::Entries;
 
-// `low` is a row whose entry is at most `y`; `high` is past the last one.
+// The last row whose entry is at most `y`: it is among the `rows` from `low` on. A turn goes on alike from either half, so that it
+// compiles to no branch, since none could be foretold.
 fn last_row(t: &Entries, y: u64) -> usize
     requires { ⌜ now t ≡ sines ⌝ }
     ensures { λ r. ⌜ LastRow y r ⌝ }
 {
     let mut low: usize = 0;
-    let mut high: usize = ROWS + 1;
-    while 1 < high - low {
-        let middle = low + (high - low) / 2;
-        if entry(t, middle) <= y {
-            low = middle;
-        } else {
-            high = middle;
+    let mut rows: usize = ROWS + 1;
+    while 1 < rows {
+        let half = rows / 2;
+        if entry(t, low + half) <= y {
+            low += half;
         }
+        rows -= half;
     }
     low
 }

@@ -4,24 +4,24 @@ ghost use mathlib.Core.Bool.{true};
 ghost use Prim.Native.Nat.{_≤_};
 ghost use Rattle.sines.specs.Table.{sines};
 ghost use Rattle.sines.specs.Sine.{shortUnit};
-ghost use Rattle.globe.specs.Ticks.{isLongitude};
+ghost use Rattle.ticks.specs.Ticks.{isLongitude};
 ghost use Rattle.globe.specs.Sheet.{cylindricalOf, sinusoidalOf, cylindricalBackOf, sinusoidalBackOf, atPole, pointAt};
 use crate::Place;
 use crate::Point;
 use crate::lookup::long_sine_of;
 use crate::lookup::short_cosine;
 use crate::lookup::signed_long_sine;
-use crate::refusal::MERIDIAN;
 use crate::refusal::PLACE;
 use crate::search::last_angle;
-use crate::ticks::into_turn;
-use crate::ticks::is_latitude;
-use crate::ticks::is_longitude;
-use crate::ticks::offset;
-use crate::ticks::sheet_refusal;
 use signed::size64;
 use signed::with_sign_of;
 use sines::Entries;
+use ticks::into_turn;
+use ticks::is_latitude;
+use ticks::is_longitude;
+use ticks::offset;
+use ticks::refusal::MERIDIAN;
+use ticks::sheet_refusal;
 
 // x is the offset, y the long sine of the latitude.
 pub(crate) fn cylindrical(t: &Entries, latitude: i32, longitude: i32, meridian: i32) -> Place

@@ -8,7 +8,7 @@ use lib.IntN.{ℤ, pos}
 use Rattle.signed.specs.Tests.{eqZ}
 use Rattle.globe.specs.declared.Place.{Place}
 use Rattle.globe.specs.declared.Place.the-variants as P
-use Rattle.globe.specs.Choice.{unless, if_then_else_}
+use Rattle.ticks.specs.Choice.{unless, if_then_else_}
 use Rattle.globe.specs.Sheet.{sinusoidalOf}
 use Rattle.pen.specs.declared.Window.{Window}
 use Rattle.pen.specs.declared.Pen.{Pen}

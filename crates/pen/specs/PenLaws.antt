@@ -7,7 +7,7 @@ use lib.Ieee.{Float}
 use lib.IntN.{ℤ}
 use Rattle.globe.specs.declared.Place.{Place}
 use Rattle.globe.specs.declared.Place.the-variants.{At, Refused}
-use Rattle.globe.specs.Choice.{unless, if_then_else_}
+use Rattle.ticks.specs.Choice.{unless, if_then_else_}
 use Rattle.globe.specs.Sheet.{sinusoidalOf}
 use Rattle.pen.specs.declared.Window.{Window}
 use Rattle.pen.specs.declared.Pen.{Pen}

@@ -6,9 +6,10 @@ use mathlib.Core.List.{List, [], _∷_}
 use Prim.Native.Nat.{ℕ, _+_, _*_}
 use lib.Dec.{ltb}
 use lib.IntN.{ℤ, pos, natAbs}
-use Rattle.globe.specs.Refusal.{LATITUDE, LONGITUDE, POINTS}
-use Rattle.globe.specs.Choice.{unless, if_then_else_}
-use Rattle.globe.specs.Ticks.{isLatitude, isLongitude}
+use Rattle.ticks.specs.Refusal.{LATITUDE, LONGITUDE}
+use Rattle.globe.specs.Refusal.{POINTS}
+use Rattle.ticks.specs.Choice.{unless, if_then_else_}
+use Rattle.ticks.specs.Ticks.{isLatitude, isLongitude}
 use Rattle.globe.specs.Buffer.{mostPoints}
 use Rattle.route.specs.declared.Mark.{Mark}
 use Rattle.route.specs.declared.Target.{Target}

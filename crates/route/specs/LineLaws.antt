@@ -10,7 +10,7 @@ use lib.IntN.{ℤ}
 use lib.ListN.{length, take}
 use lib.Dec.{ltb}
 use Rattle.globe.specs.Refusal.{POINTS}
-use Rattle.globe.specs.Ticks.{isLatitude, isLongitude}
+use Rattle.ticks.specs.Ticks.{isLatitude, isLongitude}
 use Rattle.route.specs.declared.Mark.{Mark}
 use Rattle.route.specs.declared.numbers.Number.{Number}
 use Rattle.route.specs.declared.numbers.Number.the-variants as N
@@ -22,7 +22,7 @@ use Rattle.route.specs.Pieces.{TAB, split, indexOf, holds, isByte}
 use Rattle.route.specs.PieceLaws.{onward, split-cut, split-last, split-some}
 use Rattle.route.specs.Number.{degrees, numberOf, namedByte, otherByte, kilometres, plainOf, hasMinus, pastMinus, valued}
 use Rattle.route.specs.Line.{within, latitudeOf, longitudeOf, gapOf, targetOf, pointOf, fieldsOf, lineOf, taken, isFirst, isPoint, tByte, pByte, gByte, afterOf}
-use Rattle.globe.specs.Choice.{unless}
+use Rattle.ticks.specs.Choice.{unless}
 use Rattle.globe.specs.Buffer.{mostPoints}
 use Rattle.route.specs.declared.numbers.Form.{Form}
 use Rattle.route.specs.declared.numbers.Amount.{Amount}

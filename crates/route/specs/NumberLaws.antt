@@ -14,8 +14,8 @@ use lib.ListN.{length, take, drop, getD}
 use lib.Pow.{pow-add}
 use lib.Seq.{drop-cons, take-all}
 use Rattle.signed.specs.Sign.{as-size}
-use Rattle.globe.specs.TickLaws.{and-true}
-use Rattle.globe.specs.Choice.{unless, if_then_else_}
+use Rattle.ticks.specs.TickLaws.{and-true}
+use Rattle.ticks.specs.Choice.{unless, if_then_else_}
 use Rattle.route.specs.declared.Mark.{Mark}
 use Rattle.route.specs.declared.Mark.the-variants as M
 use Rattle.route.specs.declared.numbers.Form.{Form}

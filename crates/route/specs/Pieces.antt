@@ -5,7 +5,7 @@ use mathlib.Core.List.{List, [], _∷_}
 use Prim.Native.Nat.{ℕ, zero, suc}
 use lib.Dec.{ltb, eqb}
 use lib.ListN.{length}
-use Rattle.globe.specs.Choice.{if_then_else_}
+use Rattle.ticks.specs.Choice.{if_then_else_}
 
 abbrev pub LF : ℕ
 LF = 10

@@ -10,8 +10,8 @@ use borrow.Author.Tests.{eqb-true, le-ltb, ltb-false, lt-leb, not-true}
 use lib.Dec.{eqb}
 use lib.IntN.{ℤ}
 use lib.ListN.{length, drop, length-append, length-drop}
-use Rattle.globe.specs.Choice.{if_then_else_}
-use Rattle.globe.specs.TickLaws.{and-true}
+use Rattle.ticks.specs.Choice.{if_then_else_}
+use Rattle.ticks.specs.TickLaws.{and-true}
 use Rattle.globe.specs.Buffer.{numbers, count, lengthUpTo}
 use Rattle.route.specs.declared.Mark.{Mark}
 use Rattle.route.specs.declared.Header.the-variants as H

@@ -6,7 +6,7 @@ use Prim.Native.Nat.{ℕ, _+_, _-_, _*_}
 use lib.Dec.{leb}
 use lib.IntN.{ℤ}
 use lib.ListN.{length, drop}
-use Rattle.globe.specs.Choice.{unless, if_then_else_}
+use Rattle.ticks.specs.Choice.{unless, if_then_else_}
 use Rattle.globe.specs.Buffer.{numbers, count, lengthUpTo}
 use Rattle.route.specs.declared.Mark.{Mark}
 use Rattle.route.specs.declared.Mark.the-variants as M

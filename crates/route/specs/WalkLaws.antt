@@ -9,7 +9,7 @@ use borrow.Author.Tests.{le-leb, lt-leb}
 use lib.IntN.{ℤ}
 use lib.ListN.{set, length, take}
 use lib.Seq.{sets, sets-eq}
-use Rattle.globe.specs.Choice.{if_then_else_}
+use Rattle.ticks.specs.Choice.{if_then_else_}
 use Rattle.route.specs.declared.Mark.{Mark}
 use Rattle.route.specs.declared.Header.the-variants as H
 use Rattle.route.specs.declared.Reading.the-variants as R

@@ -16,12 +16,12 @@ use crate::pieces::is_byte;
 use crate::refusal::LINE;
 use crate::refusal::ORDER;
 use globe::buffer::MOST_POINTS;
-use globe::refusal::LATITUDE;
-use globe::refusal::LONGITUDE;
 use globe::refusal::POINTS;
-use globe::ticks::is_latitude;
-use globe::ticks::is_longitude;
 use signed::size64;
+use ticks::is_latitude;
+use ticks::is_longitude;
+use ticks::refusal::LATITUDE;
+use ticks::refusal::LONGITUDE;
 
 // What a line is read as.
 pub(crate) enum Line {

@@ -134,7 +134,7 @@ longSine-zero = in-row a-step 0 a-step ∙ between-start a-step 0 ∙ first
 pub longSine-quarter : longSine quarter ≡ unit
 longSine-quarter = top a-step
 
-longSine-tick : longSine 1 ≡ 17_453
+pub longSine-tick : longSine 1 ≡ 17_453
 unfolding sineBy between entry sines sinesFrom rounded sineOfStep twiceCosine
 longSine-tick = refl
 

@@ -3,9 +3,9 @@
 use borrow.Author.Needs.{needs}
 use mathlib.Core.Path.{_≡_, sym, ap₂, _∙_}
 use mir.Facts.{toZ-ofZ}
-use Rattle.globe.specs.Choice.{firstOf}
-use Rattle.globe.specs.Ticks.{pointRefusal}
-use Rattle.globe.specs.TickLaws.{first-none, point-accepted}
+use Rattle.ticks.specs.Choice.{firstOf}
+use Rattle.ticks.specs.Ticks.{pointRefusal}
+use Rattle.ticks.specs.TickLaws.{first-none, point-accepted}
 use Rattle.globe.specs.Leg.{legOf}
 use Rattle.globe.specs.LegLaws.{refused}
 use Rattle.globe.proofs.legs.leg.Statement.{statement}

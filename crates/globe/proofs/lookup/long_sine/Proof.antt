@@ -6,8 +6,8 @@ use mathlib.Core.Bool.{true}
 use mir.Syntax.{w64}
 use mir.Facts.{toZ-ofZ}
 use Rattle.signed.specs.Machine.{signed, at64, kept}
-use Rattle.globe.specs.Ticks.{isLatitude}
-use Rattle.globe.specs.TickLaws.{passed, failed}
+use Rattle.ticks.specs.Ticks.{isLatitude}
+use Rattle.ticks.specs.TickLaws.{passed, failed}
 use Rattle.globe.specs.Angle.{longSineOf}
 use Rattle.globe.proofs.lookup.long_sine.Statement.{statement}
 use Rattle.globe.proofs.lookup.long_sine.Tie as tie

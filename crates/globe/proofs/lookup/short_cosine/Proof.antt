@@ -5,7 +5,7 @@ use native.Mathlib.Omega.{arith}
 use lib.IntN.{natAbs}
 use mir.Facts.{toZ-ofZ}
 use Rattle.globe.specs.Angle.{shortCosine}
-use Rattle.globe.specs.TickLaws.{latitude-size}
+use Rattle.ticks.specs.TickLaws.{latitude-size}
 use Rattle.globe.proofs.lookup.short_cosine.Statement.{statement}
 use Rattle.globe.proofs.lookup.short_cosine.Tie as tie
 

@@ -10,8 +10,8 @@ use mir.Val.{SFits, toZ, ofZ}
 use mir.Facts.{toZ-ofZ}
 use Rattle.signed.specs.Machine.{signed, at64, kept, quot-fits}
 use Rattle.sines.specs.Sine.{shortening}
-use Rattle.globe.specs.Ticks.{isLatitude}
-use Rattle.globe.specs.TickLaws.{passed, failed}
+use Rattle.ticks.specs.Ticks.{isLatitude}
+use Rattle.ticks.specs.TickLaws.{passed, failed}
 use Rattle.globe.specs.Angle.{signedLongSine, signedShortSine, shortSineOf}
 use Rattle.globe.proofs.lookup.short_sine.Statement.{statement}
 use Rattle.globe.proofs.lookup.short_sine.Tie as tie

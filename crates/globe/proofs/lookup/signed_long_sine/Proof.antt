@@ -10,7 +10,7 @@ use mir.Facts.{toZ-ofZ}
 use Rattle.signed.specs.Sign.{signAs, as-fits, nearest-self}
 use Rattle.sines.specs.Sine.{longSine}
 use Rattle.sines.specs.SineLaws.{longSine-top}
-use Rattle.globe.specs.TickLaws.{latitude-size}
+use Rattle.ticks.specs.TickLaws.{latitude-size}
 use Rattle.globe.proofs.lookup.signed_long_sine.Statement.{statement}
 use Rattle.globe.proofs.lookup.signed_long_sine.Tie as tie
 

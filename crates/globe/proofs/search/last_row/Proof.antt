@@ -1,54 +1,71 @@
--- `globe::search::last_row` meets its contract. The loop's invariant: the entry at `low` is at most `y`, that at `high` above it
--- or `high` past the table. The measure is what lies between. Assumes nothing.
+-- `globe::search::last_row` meets its contract. The loop's invariant: the entry at `low` is at most `y`, that at `low + rows` above it
+-- or past the table. The measure is `rows`. Assumes nothing.
 use mathlib.Core.Path.{_≡_}
-use Prim.Native.Nat.{_+_, _-_, _≤_, _<_}
+use mathlib.Core.Logic.{⊎-elim}
+use Prim.Native.Nat.{ℕ, _+_, _-_, _/_, _≤_, _<_}
 use native.Mathlib.Omega.{arith}
 use borrow.Author.Needs.{needs}
 use Rattle.sines.specs.Table.{entry}
-use Rattle.sines.specs.Rules.{rows, first}
+use Rattle.sines.specs.Rules.{rows, first, rising}
 use Rattle.globe.proofs.search.last_row.Statement.{statement}
 use Rattle.globe.proofs.search.last_row.Tie as tie
 
+-- the last row is one of so many from `low` on
+abbrev Within : ℕ → ℕ → ℕ → Type 0
+Within y low left = (0 < left) × (low + left ≤ rows + 1) × (entry low ≤ y) × (low + left < rows + 1 → y < entry (low + left))
+
+module _ (y low left : ℕ) (more : 1 < left) (within : Within y low left) where
+  upper : entry (low + left / 2) ≤ y → Within y (low + left / 2) (left - left / 2)
+  upper l =
+      let e : low + left / 2 + (left - left / 2) ≡ low + left = omega arith in
+      (omega arith, omega arith, l, rw e (within .3))
+
+  lower : y < entry (low + left / 2) → Within y low (left - left / 2)
+  lower l =
+      (omega arith, omega arith, within .2, λ h. omega (arith, rising (low + left / 2) (low + (left - left / 2)) (omega arith) (omega arith)))
+
 abbrev Inv-loop : tie.InvT-loop
-Inv-loop t y low₀ high₀ low high = (low < high) × (high ≤ rows + 1) × (entry low ≤ y) × (high < rows + 1 → y < entry high)
+Inv-loop t y low₀ rows₀ low left = Within y low left
 
 abbrev μ-loop : tie.MeasureT-loop
-μ-loop t y low₀ high₀ low high = high - low
+μ-loop t y low₀ rows₀ low left = left
 
-add-high : tie.Need-add-high Inv-loop μ-loop
-add-high c = search needs
+add-rows : tie.Need-add-rows Inv-loop μ-loop
+add-rows c = search needs
 
 loop-holds : tie.Need-loop-holds Inv-loop μ-loop
 loop-holds c = omega (arith, first)
 
-sub-loop : tie.Need-sub-loop Inv-loop μ-loop
-sub-loop c = search needs
-
-sub-middle : tie.Need-sub-middle Inv-loop μ-loop
-sub-middle c = search needs
-
-add-middle : tie.Need-add-middle Inv-loop μ-loop
-add-middle c = search needs
+add-entry : tie.Need-add-entry Inv-loop μ-loop
+add-entry c = search needs
 
 entry-requires : tie.Need-entry-requires Inv-loop μ-loop
 entry-requires c κs = search needs
+
+add-low : tie.Need-add-low Inv-loop μ-loop
+add-low c = search needs
+
+sub-rows : tie.Need-sub-rows Inv-loop μ-loop
+sub-rows c = search needs
 
 loop-less : tie.Need-loop-less Inv-loop μ-loop
 loop-less c = search needs
 
 loop-again : tie.Need-loop-again Inv-loop μ-loop
-loop-again c = (search needs, search needs, search needs, c .before .before .before .loop .inv .3)
-
-loop-less-2 : tie.Need-loop-less-2 Inv-loop μ-loop
-loop-less-2 c = search needs
-
-loop-again-2 : tie.Need-loop-again-2 Inv-loop μ-loop
-loop-again-2 c = (search needs, search needs, search needs, λ h. search needs)
+loop-again c =
+    let at = c .before .before .before .loop in
+    let y = c .before .before .before .before .args .y in
+    let more = c .before .before .loop-test .taken in
+    let e = c .before .entry .ensures in
+    ⊎-elim
+    (λ w. rw (w .1) (upper y (at .low) (at .rows) more (at .inv) (rw e at (w .0 .taken))))
+    (λ w. rw (w .1) (lower y (at .low) (at .rows) more (at .inv) (rw e at (w .0 .left))))
+    (c .if1 .came)
 
 returns : tie.Need-returns Inv-loop μ-loop
 returns c =
     let at = c .before .loop in
-    let e : at .high ≡ at .low + 1 = omega arith in
+    let e : at .rows ≡ 1 = omega arith in
     record { inside = omega arith; low = at .inv .2; high = λ h. rw e at (at .inv .3 (omega arith)) }
 
 pub last-row-spec : {M : Type 1} → statement M
@@ -57,14 +74,12 @@ last-row-spec =
     (tie.spec
     Inv-loop
     μ-loop
-    add-high
+    add-rows
     loop-holds
-    sub-loop
-    sub-middle
-    add-middle
+    add-entry
     entry-requires
+    add-low
+    sub-rows
     loop-less
     loop-again
-    loop-less-2
-    loop-again-2
     returns)

@@ -5,8 +5,8 @@ use mathlib.Core.Path.{_≡_, sym, ap₂, _∙_}
 use mir.Syntax.{w64}
 use mir.Facts.{toZ-ofZ}
 use Rattle.signed.specs.Machine.{kept}
-use Rattle.globe.specs.Ticks.{offsetOf, sheetRefusal}
-use Rattle.globe.specs.TickLaws.{sheet-accepted}
+use Rattle.ticks.specs.Ticks.{offsetOf, sheetRefusal}
+use Rattle.ticks.specs.TickLaws.{sheet-accepted}
 use Rattle.globe.specs.Sheet.{placeOf}
 use Rattle.globe.specs.SheetLaws.{refused, times-one}
 use Rattle.globe.proofs.sheet.cylindrical.Statement.{statement}

@@ -15,8 +15,8 @@ use Rattle.signed.specs.Sign.{signAs, nearest, as-size, as-fits, nearest-self}
 use Rattle.sines.specs.Back.{LastAngle, angleOf}
 use Rattle.sines.specs.BackLaws.{angleOf-some, angleOf-none}
 use Rattle.sines.specs.Sine.{step}
-use Rattle.globe.specs.Ticks.{isLatitude, isLongitude}
-use Rattle.globe.specs.TickLaws.{passed, failed, size-latitude, latitude-fits}
+use Rattle.ticks.specs.Ticks.{isLatitude, isLongitude}
+use Rattle.ticks.specs.TickLaws.{passed, failed, size-latitude, latitude-fits}
 use Rattle.globe.specs.Sheet.{backOf}
 use Rattle.globe.proofs.sheet.cylindrical_back.Statement.{statement}
 use Rattle.globe.proofs.sheet.cylindrical_back.Tie as tie

@@ -14,8 +14,8 @@ use mir.ValLaws.{toZ-pos}
 use mir.Facts.{toZ-ofZ}
 use Rattle.signed.specs.Tests.{eq-eqZ, ne-eqZ}
 use Rattle.signed.specs.Machine.{signed, at64, kept, quot-fits, exact-fits, same-bits}
-use Rattle.globe.specs.Ticks.{isLongitude, turned}
-use Rattle.globe.specs.TickLaws.{passed, failed, is-longitude, longitude-fits, sum-fits, sum-longitude}
+use Rattle.ticks.specs.Ticks.{isLongitude, turned}
+use Rattle.ticks.specs.TickLaws.{passed, failed, is-longitude, longitude-fits, sum-fits, sum-longitude}
 use Rattle.globe.proofs.sheet.point_at.Statement.{statement}
 use Rattle.globe.proofs.sheet.point_at.Tie as tie
 

@@ -9,8 +9,8 @@ use mir.Val.{SFits, toZ, ofZ}
 use mir.ValLaws.{toZ-pos}
 use mir.Facts.{toZ-ofZ}
 use Rattle.signed.specs.Machine.{signed, at64, kept}
-use Rattle.globe.specs.Ticks.{offsetOf, sheetRefusal}
-use Rattle.globe.specs.TickLaws.{sheet-accepted, offset-longitude, product-fits}
+use Rattle.ticks.specs.Ticks.{offsetOf, sheetRefusal}
+use Rattle.ticks.specs.TickLaws.{sheet-accepted, offset-longitude, product-fits}
 use Rattle.globe.specs.Angle.{shortCosine}
 use Rattle.globe.specs.AngleLaws.{cosine-top}
 use Rattle.globe.specs.Sheet.{placeOf}

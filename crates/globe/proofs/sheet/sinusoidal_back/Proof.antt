@@ -8,8 +8,8 @@ use mir.Syntax.{w32, w64}
 use mir.Val.{toZ, ofZ}
 use mir.Facts.{toZ-ofZ}
 use Rattle.signed.specs.Machine.{signed, at32, at64}
-use Rattle.globe.specs.Ticks.{isLatitude, isLongitude}
-use Rattle.globe.specs.TickLaws.{passed, failed, latitude-fits}
+use Rattle.ticks.specs.Ticks.{isLatitude, isLongitude}
+use Rattle.ticks.specs.TickLaws.{passed, failed, latitude-fits}
 use Rattle.globe.specs.Angle.{shortCosine}
 use Rattle.globe.specs.AngleLaws.{cosine-top}
 use Rattle.globe.specs.Sheet.{backOf}

@@ -6,7 +6,7 @@ use borrow.Author.Needs.{needs}
 use borrow.Author.Tests.{not-true, not-false}
 use mir.Syntax.{w64}
 use Rattle.signed.specs.Machine.{kept}
-use Rattle.globe.specs.Ticks.{isLatitude}
+use Rattle.ticks.specs.Ticks.{isLatitude}
 use Rattle.route.specs.Number.{degrees, numberOf}
 use Rattle.route.specs.Line.{latitudeOf}
 use Rattle.route.proofs.lines.latitude.Statement.{statement}

@@ -6,7 +6,7 @@ use borrow.Author.Needs.{needs}
 use borrow.Author.Tests.{not-true, not-false}
 use mir.Syntax.{w64}
 use Rattle.signed.specs.Machine.{kept}
-use Rattle.globe.specs.Ticks.{isLongitude}
+use Rattle.ticks.specs.Ticks.{isLongitude}
 use Rattle.route.specs.Number.{degrees, numberOf}
 use Rattle.route.specs.Line.{longitudeOf}
 use Rattle.route.proofs.lines.longitude.Statement.{statement}

@@ -9,7 +9,7 @@ use mir.Syntax.{w32, w64}
 use mir.Val.{SFits}
 use Rattle.signed.specs.Machine.{kept, at32}
 use Rattle.globe.specs.Buffer.{mostPoints}
-use Rattle.globe.specs.TickLaws.{latitude-fits, longitude-fits}
+use Rattle.ticks.specs.TickLaws.{latitude-fits, longitude-fits}
 use Rattle.route.specs.Pieces.{isByte}
 use Rattle.route.specs.Line.{pByte, pointOf}
 use Rattle.route.specs.LineLaws.{latitude-in, longitude-in}

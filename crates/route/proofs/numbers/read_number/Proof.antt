@@ -10,7 +10,7 @@ use borrow.Author.Needs.{needs}
 use lib.ListN.{length}
 use mir.Syntax.{w64}
 use Rattle.signed.specs.Machine.{kept}
-use Rattle.globe.specs.Choice.{if_then_else_}
+use Rattle.ticks.specs.Choice.{if_then_else_}
 use Rattle.route.specs.declared.Mark.{Mark}
 use Rattle.route.specs.declared.numbers.Form.{Form}
 use Rattle.route.specs.declared.numbers.Amount.{Amount}

@@ -1,0 +1,98 @@
+#!/usr/bin/env python3
+"""How far the document's length of a leg lies from the true great circle on its sphere, over random legs of several lengths.
+
+The rule is the model's of tests/, to which the tests hold the compiled code. The truth is that of the same points, in whole ticks, worked
+out to more than 50 digits by the form with the arc tangent of two arguments, which loses nothing at any length.
+"""
+import math
+import pathlib
+import random
+import sys
+from decimal import Decimal, getcontext
+
+sys.dont_write_bytecode = True
+sys.path.insert(0, str(pathlib.Path(__file__).resolve().parent.parent / 'tests'))
+import model
+from sine import PI, SCALE
+
+SEED = 1395
+LEGS = 2_000  # of each length
+RADIUS = 6_371_000  # metres
+METRES = [1, 10, 100, 1_000, 10_000, 100_000, 1_000_000, 5_000_000, 15_000_000]
+HIGHEST = math.sin(math.radians(85))  # near a pole the rule is another story: its cosines have few digits there
+NEAR = 10_000  # metres from a pole, or from the antipode
+
+getcontext().prec = 60
+TICK = Decimal(PI) / SCALE / model.HALF_TURN  # in radians
+
+
+def sine_and_cosine(x):
+    """Of an angle in radians, at most half a turn either way, by their series."""
+    sums, term, n = [Decimal(0), Decimal(1)], Decimal(1), 0
+    while abs(term) > Decimal('1e-62'):
+        n += 1
+        term *= x / n
+        sums[(n + 1) % 2] += term if n % 4 < 2 else -term
+    return sums
+
+
+def true_length(latitude, longitude, latitude2, longitude2):
+    """The millimetres of the great circle between two points in ticks."""
+    s1, c1 = sine_and_cosine(latitude * TICK)
+    s2, c2 = sine_and_cosine(latitude2 * TICK)
+    s, c = sine_and_cosine((longitude2 - longitude + model.HALF_TURN) % model.TURN * TICK - model.HALF_TURN * TICK)
+    y = ((c2 * s)**2 + (c1 * s2 - s1 * c2 * c)**2).sqrt()
+    x = s1 * s2 + c1 * c2 * c
+    # y and x are the arc's sine and cosine: the float's answer is off by an angle whose sine they give, so small that two terms are enough
+    near = Decimal(math.atan2(y, x))
+    s, c = sine_and_cosine(near)
+    off = y * c - x * s
+    return (near + off + off**3 / 6) * RADIUS * 1000
+
+
+def some_latitude():
+    """In radians; no part of the globe below 85 degrees is likelier than another."""
+    return math.asin(random.uniform(-HIGHEST, HIGHEST))
+
+
+def polar_latitude():
+    return math.pi / 2 - random.uniform(0, NEAR) / RADIUS
+
+
+def some_leg(latitude, metres):
+    """A leg of this length, in ticks, from anywhere at a latitude and in any direction."""
+    longitude, course, arc = random.uniform(-math.pi, math.pi), random.uniform(-math.pi, math.pi), metres / RADIUS
+    sine = math.sin(latitude) * math.cos(arc) + math.cos(latitude) * math.sin(arc) * math.cos(course)
+    latitude2 = math.asin(max(-1, min(sine, 1)))
+    longitude2 = longitude + math.atan2(math.sin(course) * math.sin(arc) * math.cos(latitude), math.cos(arc) - math.sin(latitude) * sine)
+    return ticks(latitude), longitude_ticks(longitude), ticks(latitude2), longitude_ticks(longitude2)
+
+
+def ticks(radians):
+    return round(math.degrees(radians) * model.DEGREE)
+
+
+def longitude_ticks(radians):
+    return (ticks(radians) + model.HALF_TURN) % model.TURN - model.HALF_TURN
+
+
+def print_row(name, legs):
+    """The largest and the mean size of the difference, and the largest beside the leg's own length."""
+    truths = [true_length(*leg) for leg in legs]
+    sizes = [abs(model.leg(*leg) - truth) for leg, truth in zip(legs, truths)]
+    relative = max(size / truth for size, truth in zip(sizes, truths))
+    print(f'{name:>22} {len(legs):6} {max(sizes):12.1f} {sum(sizes) / len(sizes):12.1f} {relative:12.1e}')
+
+
+def about(metres):
+    return metres * random.uniform(0.9, 1.1)
+
+
+random.seed(SEED)
+print(f'seed {SEED}; from one run')
+print(f'{"a leg of about":>22} {"legs":>6} {"largest, mm":>12} {"mean, mm":>12} {"relative":>12}')
+for metres in METRES:
+    name = f'{metres} m' if metres < 1000 else f'{metres // 1000:,} km'
+    print_row(name, [some_leg(some_latitude(), about(metres)) for _ in range(LEGS)])
+print_row('1 km, near a pole', [some_leg(polar_latitude(), about(1000)) for _ in range(LEGS)])
+print_row('nearly to the antipode', [some_leg(some_latitude(), math.pi * RADIUS - random.uniform(0, NEAR)) for _ in range(LEGS)])

@@ -1,0 +1,387 @@
+/* Times each door and the reader against the twin and against the usual way, on the same inputs, and prints what a call costs and the
+   ratios. A door and its twin have to answer the same: where they do not, this says so and ends with status 1. */
+#include "twin.h"
+#include "usual.h"
+
+struct timespec { long tv_sec, tv_nsec; };
+int clock_gettime(int, struct timespec *);
+int memcmp(const void *, const void *, size_t);
+void *memcpy(void *restrict, const void *restrict, size_t);
+int printf(const char *restrict, ...);
+int sprintf(char *restrict, const char *restrict, ...);
+
+enum { SEED = 1395, CALLS = 1000, POINTS = 1000, FEW_POINTS = 10, REPETITIONS = 60 };
+enum { QUARTER = 900000000, HALF_TURN = 1800000000, DEGREE = 10000000 };
+enum { STRIDE = 5000 }; /* a step of a walk, in ticks: up to some 50 metres either way */
+enum { MONOTONIC = 1 }; /* clock_gettime's number for the clock that nobody sets */
+
+#define SECTION 1e6 /* the least nanoseconds between two looks at the clock */
+#define EDGE 5e9 /* the pen's window, in millimetres either way: some points lie in it and some do not */
+#define DIVISOR 1000
+
+/* Inputs */
+
+/* In ticks for a door and its twin, in degrees for the usual way. The fields have the same names, so that the calls read alike. */
+typedef struct {
+    int32_t latitude, longitude, meridian, latitude2, longitude2, third, pen;
+    senruhobi_place cylindrical, sinusoidal;
+} input;
+
+typedef struct {
+    double latitude, longitude, meridian, latitude2, longitude2;
+    int32_t third, pen;
+    usual_place cylindrical, sinusoidal;
+} usual_input;
+
+static input accepted[CALLS], refused[CALLS];
+static const input *ticks; /* one of the two */
+static usual_input degrees[CALLS];
+
+/* Routes with points from all round the globe (far) and of a walk (near). In a joined one a leg goes into each point but the first; in a
+   parted one `g` stands between all points, and there is no leg. Each text ends in a zero byte, for strtod. */
+typedef struct { char bytes[60001]; size_t length; } text;
+
+static text far_joined, far_parted, near_joined, near_parted, few_points, no_points;
+static int32_t senruhobi_buffer[3 * POINTS], twin_buffer[3 * POINTS];
+static double usual_buffer[3 * POINTS];
+
+/* A number from least to most, by splitmix64. */
+static int32_t between(int64_t least, int64_t most)
+{
+    static uint64_t state = SEED;
+    uint64_t z = state += 0x9e3779b97f4a7c15;
+    z = (z ^ z >> 30) * 0xbf58476d1ce4e5b9;
+    z = (z ^ z >> 27) * 0x94d049bb133111eb;
+    z ^= z >> 31;
+    return (int32_t)(least + (int64_t)(z % (uint64_t)(most - least + 1)));
+}
+
+static int32_t some_latitude(void)
+{
+    return between(-QUARTER, QUARTER);
+}
+
+static int32_t some_longitude(void)
+{
+    return between(-HALF_TURN, HALF_TURN - 1);
+}
+
+static double in_degrees(int32_t angle)
+{
+    return angle / (double)DEGREE;
+}
+
+/* The ways back get the places of the same points. */
+static void make_input(input *t, usual_input *d)
+{
+    t->latitude = some_latitude(), d->latitude = in_degrees(t->latitude);
+    t->longitude = some_longitude(), d->longitude = in_degrees(t->longitude);
+    t->meridian = some_longitude(), d->meridian = in_degrees(t->meridian);
+    t->latitude2 = some_latitude(), d->latitude2 = in_degrees(t->latitude2);
+    t->longitude2 = some_longitude(), d->longitude2 = in_degrees(t->longitude2);
+    t->third = d->third = between(0, 1);
+    t->pen = d->pen = between(0, 1);
+    t->cylindrical = twin_cylindrical(t->latitude, t->longitude, t->meridian);
+    t->sinusoidal = twin_sinusoidal(t->latitude, t->longitude, t->meridian);
+    d->cylindrical = usual_cylindrical(d->latitude, d->longitude, d->meridian);
+    d->sinusoidal = usual_sinusoidal(d->latitude, d->longitude, d->meridian);
+}
+
+/* Whatever is asked of a refused input, its latitude or its meridian forbids. */
+static void make_inputs(void)
+{
+    for (int i = 0; i < CALLS; i++) {
+        make_input(&accepted[i], &degrees[i]);
+        refused[i] = (input){.latitude = QUARTER + 1, .meridian = HALF_TURN};
+    }
+}
+
+/* With all its seven decimals. */
+static char *write_angle(char *to, int32_t angle)
+{
+    int32_t size = angle < 0 ? -angle : angle;
+    return to + sprintf(to, "%s%d.%07d", angle < 0 ? "-" : "", size / DEGREE, size % DEGREE);
+}
+
+static void write_route(text *route, int32_t points[][2], int n, const char *parting)
+{
+    char *to = route->bytes + sprintf(route->bytes, "route\tpoint\n");
+    for (int i = 0; i < n; i++) {
+        to += sprintf(to, "%sp\t", i ? parting : "");
+        to = write_angle(to, points[i][0]);
+        to += sprintf(to, "\t");
+        to = write_angle(to, points[i][1]);
+        to += sprintf(to, "\n");
+    }
+    route->length = (size_t)(to - route->bytes);
+}
+
+static void make_texts(void)
+{
+    static int32_t far[POINTS][2], near[POINTS][2];
+    int32_t latitude = 46 * DEGREE, longitude = 8 * DEGREE;
+    for (int i = 0; i < POINTS; i++) {
+        far[i][0] = some_latitude();
+        far[i][1] = some_longitude();
+        near[i][0] = latitude += between(-STRIDE, STRIDE);
+        near[i][1] = longitude += between(-STRIDE, STRIDE);
+    }
+    write_route(&far_joined, far, POINTS, "");
+    write_route(&far_parted, far, POINTS, "g\n");
+    write_route(&near_joined, near, POINTS, "");
+    write_route(&near_parted, near, POINTS, "g\n");
+    write_route(&few_points, near, FEW_POINTS, "");
+    write_route(&no_points, near, 0, "");
+}
+
+/* Rounds: a call for each input, or one reading. Each answers the sum of what it was answered, so that no call can be left out. */
+
+static uint64_t bits(double x)
+{
+    uint64_t n;
+    memcpy(&n, &x, sizeof n);
+    return n;
+}
+
+#define ROUND(way, name, given, number, answer, call, added) \
+    static uint64_t way##_##name##_round(void)               \
+    {                                                        \
+        number sum = 0;                                      \
+        for (int i = 0; i < CALLS; i++) {                    \
+            given[i];                                        \
+            answer a = way##_##call;                         \
+            sum += added;                                    \
+        }                                                    \
+        return (uint64_t)(int64_t)sum;                       \
+    }
+
+/* A door and its twin have one signature. */
+#define EXACT(name, answer, call, added)                                             \
+    ROUND(senruhobi, name, const input *in = &ticks, uint64_t, answer, call, added) \
+    ROUND(twin, name, const input *in = &ticks, uint64_t, answer, call, added)
+
+#define USUAL(name, answer, call, added) ROUND(usual, name, const usual_input *in = &degrees, double, answer, call, added)
+
+#define PLACE a.refusal + (uint64_t)a.x + 3 * (uint64_t)a.y
+#define POINT a.refusal + (uint64_t)a.latitude + 3 * (uint64_t)a.longitude
+#define STEP pen_step(in->pen, -EDGE, EDGE, -EDGE, EDGE, DIVISOR, in->meridian, in->latitude, in->longitude, in->third)
+
+EXACT(long_sine, senruhobi_sine, long_sine(in->latitude), a.refusal + (uint64_t)a.value)
+EXACT(short_sine, senruhobi_sine, short_sine(in->latitude), a.refusal + (uint64_t)a.value)
+EXACT(cylindrical, senruhobi_place, cylindrical(in->latitude, in->longitude, in->meridian), PLACE)
+EXACT(sinusoidal, senruhobi_place, sinusoidal(in->latitude, in->longitude, in->meridian), PLACE)
+EXACT(cylindrical_back, senruhobi_point, cylindrical_back(in->cylindrical.x, in->cylindrical.y, in->meridian), POINT)
+EXACT(sinusoidal_back, senruhobi_point, sinusoidal_back(in->sinusoidal.x, in->sinusoidal.y, in->meridian), POINT)
+EXACT(leg, senruhobi_length, leg(in->latitude, in->longitude, in->latitude2, in->longitude2), a.refusal + a.millimetres)
+EXACT(pen_step, senruhobi_step, STEP, a.refusal + a.stroke + a.pen + bits(a.x) + 3 * bits(a.y))
+
+USUAL(long_sine, usual_number, sine(in->latitude), a.refused + a.value)
+USUAL(short_sine, usual_number, sine(in->latitude), a.refused + a.value)
+USUAL(cylindrical, usual_place, cylindrical(in->latitude, in->longitude, in->meridian), a.refused + a.x + a.y)
+USUAL(sinusoidal, usual_place, sinusoidal(in->latitude, in->longitude, in->meridian), a.refused + a.x + a.y)
+USUAL(cylindrical_back, usual_point, cylindrical_back(in->cylindrical.x, in->cylindrical.y, in->meridian),
+      a.refused + a.latitude + a.longitude)
+USUAL(sinusoidal_back, usual_point, sinusoidal_back(in->sinusoidal.x, in->sinusoidal.y, in->meridian),
+      a.refused + a.latitude + a.longitude)
+USUAL(leg, usual_number, leg(in->latitude, in->longitude, in->latitude2, in->longitude2), a.refused + a.value)
+USUAL(pen_step, usual_step, STEP, a.refused + a.stroke + a.pen + a.x + a.y)
+
+#define READ_EXACT(way, route, kind, numbers)                                                                     \
+    static uint64_t way##_##route##_##kind(void)                                                                  \
+    {                                                                                                             \
+        senruhobi_reading a = way##_read_route((const uint8_t *)route.bytes, route.length, way##_buffer, numbers); \
+        return a.refusal + a.line + a.points + a.has_target + a.length + 3 * a.target;                            \
+    }
+
+#define READ_USUAL(route)                                                             \
+    static uint64_t usual_##route##_round(void)                                       \
+    {                                                                                 \
+        usual_reading a = usual_read_route(route.bytes, usual_buffer, 3 * POINTS);    \
+        return (uint64_t)(a.refused + a.points + a.has_target + a.length + a.target); \
+    }
+
+/* Without room for the points a route is refused once all its lines are judged. */
+#define READ(route)                                   \
+    READ_EXACT(senruhobi, route, round, 3 * POINTS)   \
+    READ_EXACT(twin, route, round, 3 * POINTS)        \
+    READ_EXACT(senruhobi, route, judging, 0)          \
+    READ_EXACT(twin, route, judging, 0)               \
+    READ_USUAL(route)
+
+READ_EXACT(senruhobi, no_points, round, 3 * POINTS)
+READ_EXACT(twin, no_points, round, 3 * POINTS)
+READ(few_points)
+READ(near_joined)
+READ(near_parted)
+READ(far_joined)
+READ(far_parted)
+
+/* Jobs */
+
+/* Beside the three ways: a call that makes a table, if it makes one, and does nothing else; and a reading that only judges the lines. */
+enum { DOOR, TWIN, USUALLY, IDLE_DOOR, IDLE_TWIN, JUDGING_DOOR, JUDGING_TWIN, WAYS };
+
+typedef struct {
+    const char *name;
+    int calls; /* in a round */
+    uint64_t (*round[WAYS])(void); /* or none */
+    int rounds[WAYS]; /* in a section */
+    double best[WAYS]; /* nanoseconds a call */
+    uint64_t sum[WAYS]; /* of one round */
+    int differ;
+} job;
+
+/* A door that refuses its input, and a reader that finds no points, are idle. */
+#define EACH(door)                                                                                                  \
+    {                                                                                                               \
+        .name = #door, .calls = CALLS,                                                                              \
+        .round = {[DOOR] = senruhobi_##door##_round, [TWIN] = twin_##door##_round, [USUALLY] = usual_##door##_round, \
+                  [IDLE_DOOR] = senruhobi_##door##_round, [IDLE_TWIN] = twin_##door##_round}                        \
+    }
+#define READING(title, route)                                                                                          \
+    {                                                                                                                  \
+        .name = "read_route, " title, .calls = 1,                                                                      \
+        .round = {[DOOR] = senruhobi_##route##_round, [TWIN] = twin_##route##_round, [USUALLY] = usual_##route##_round, \
+                  [IDLE_DOOR] = senruhobi_no_points_round, [IDLE_TWIN] = twin_no_points_round,                         \
+                  [JUDGING_DOOR] = senruhobi_##route##_judging, [JUDGING_TWIN] = twin_##route##_judging}               \
+    }
+
+enum {
+    LONG_SINE, SHORT_SINE, CYLINDRICAL, SINUSOIDAL, CYLINDRICAL_BACK, SINUSOIDAL_BACK, LEG, PEN_STEP,
+    READ_FEW, NEAR_JOINED, NEAR_PARTED, FAR_JOINED, FAR_PARTED, JOBS
+};
+
+static job jobs[JOBS] = {
+    [LONG_SINE] = EACH(long_sine),
+    [SHORT_SINE] = EACH(short_sine),
+    [CYLINDRICAL] = EACH(cylindrical),
+    [SINUSOIDAL] = EACH(sinusoidal),
+    [CYLINDRICAL_BACK] = EACH(cylindrical_back),
+    [SINUSOIDAL_BACK] = EACH(sinusoidal_back),
+    [LEG] = EACH(leg),
+    [PEN_STEP] = EACH(pen_step),
+    [READ_FEW] = READING("few points", few_points),
+    [NEAR_JOINED] = READING("near, joined", near_joined),
+    [NEAR_PARTED] = READING("near, parted", near_parted),
+    [FAR_JOINED] = READING("far, joined", far_joined),
+    [FAR_PARTED] = READING("far, parted", far_parted),
+};
+
+static double now(void)
+{
+    struct timespec t;
+    clock_gettime(MONOTONIC, &t);
+    return 1e9 * (double)t.tv_sec + (double)t.tv_nsec;
+}
+
+/* The nanoseconds of one section. */
+static double section(job *j, int way)
+{
+    ticks = way == IDLE_DOOR || way == IDLE_TWIN ? refused : accepted;
+    double start = now();
+    for (int i = 0; i < j->rounds[way]; i++)
+        j->sum[way] = j->round[way]();
+    return now() - start;
+}
+
+/* So many rounds that a section is long enough for the clock. */
+static void prepare(job *j)
+{
+    for (int way = 0; way < WAYS; way++)
+        for (j->rounds[way] = 1; j->round[way] && section(j, way) < SECTION;)
+            j->rounds[way] *= 2;
+}
+
+/* The door and its twin have to answer the same, and to leave the same in their buffers. */
+static void compare(job *j)
+{
+    j->differ |= j->sum[DOOR] != j->sum[TWIN] || j->sum[IDLE_DOOR] != j->sum[IDLE_TWIN] ||
+                 j->sum[JUDGING_DOOR] != j->sum[JUDGING_TWIN] || memcmp(senruhobi_buffer, twin_buffer, sizeof twin_buffer) != 0;
+}
+
+static void repeat(job *j)
+{
+    for (int way = 0; way < WAYS && j->round[way]; way++) {
+        double each = section(j, way) / j->rounds[way] / j->calls;
+        if (j->best[way] == 0 || each < j->best[way])
+            j->best[way] = each;
+    }
+    compare(j);
+}
+
+/* A rest below a twentieth of the table is little more than the noise of two large figures, and has no ratio. */
+static void print_row(const char *name, const double *each, double table)
+{
+    double door = each[DOOR], rest = door - table, twin = each[TWIN], usual = each[USUALLY];
+    char ratio[32] = "-";
+    if (rest >= table / 20)
+        sprintf(ratio, "%.2f", rest / twin);
+    printf("%-25s %9.1f %8.1f %9.1f %9.1f %9.1f %10.2f %10s %11.2f\n", name, door, table, rest, twin, usual, door / twin, ratio,
+           door / usual);
+}
+
+/* What a `g` line costs a reader, however often it reads a line: of the time for all lines, the share that it has of their judging. */
+static double gap(const job *joined, const job *parted, int way)
+{
+    double lines = parted->best[way] - parted->best[IDLE_DOOR + way];
+    double share = 1 - joined->best[JUDGING_DOOR + way] / parted->best[JUDGING_DOOR + way];
+    return share * lines / (POINTS - 1);
+}
+
+/* The parted text has a `g` line in the place of each leg. To the usual way that is one byte more, and is let go. */
+static void print_leg(const char *name, const job *joined, const job *parted)
+{
+    double each[] = {[DOOR] = gap(joined, parted, DOOR), [TWIN] = gap(joined, parted, TWIN), [USUALLY] = 0};
+    for (int way = DOOR; way <= USUALLY; way++)
+        each[way] += (joined->best[way] - parted->best[way]) / (POINTS - 1);
+    print_row(name, each, 0);
+}
+
+static void print_rows(void)
+{
+    printf("%-25s %9s %8s %9s %9s %9s %10s %10s %11s\n", "ns a call", "door", "table", "rest", "twin", "usual", "door/twin", "rest/twin",
+           "door/usual");
+    for (int i = 0; i < JOBS; i++)
+        print_row(jobs[i].name, jobs[i].best, jobs[i].best[IDLE_DOOR] - jobs[i].best[IDLE_TWIN]);
+    print_leg("a leg inside it, near", &jobs[NEAR_JOINED], &jobs[NEAR_PARTED]);
+    print_leg("a leg inside it, far", &jobs[FAR_JOINED], &jobs[FAR_PARTED]);
+    printf("\n"
+           "door    the library's own function; twin: the same rules in plain C; usual: sin, asin, strtod, doubles\n"
+           "table   what a call pays to make the table of sines: an idle call (one refused, a route without points) less the twin's\n"
+           "rest    door less table; no ratio below a twentieth of the table, where it is mostly noise\n"
+           "few     %d points of a walk; near: %d of them; far: %d points from all round the globe\n"
+           "joined  a leg into each point but the first; parted: `g` between all points, and no leg\n"
+           "a leg   (joined - parted) / %d, plus the cost of the `g` line that stands in its place in the parted text\n",
+           FEW_POINTS, POINTS, POINTS, POINTS - 1);
+}
+
+/* The sums of one round each, so that every answer is used. Answers whether a door and its twin differ. */
+static int print_sums(void)
+{
+    uint64_t sums[WAYS] = {0};
+    int differ = 0;
+    for (int i = 0; i < JOBS; i++) {
+        for (int way = 0; way < WAYS; way++)
+            sums[way] += jobs[i].sum[way];
+        if (jobs[i].differ)
+            printf("MISMATCH: %s: the door and its twin differ, in a sum or in a buffer\n", jobs[i].name);
+        differ |= jobs[i].differ;
+    }
+    printf("sums    door %016lx, twin %016lx, usual %016lx\n", sums[DOOR], sums[TWIN], sums[USUALLY]);
+    return differ;
+}
+
+int main(void)
+{
+    printf("seed %d; the best of %d repetitions\n\n", SEED, REPETITIONS);
+    make_inputs();
+    make_texts();
+    for (int i = 0; i < JOBS; i++)
+        prepare(&jobs[i]);
+    /* turn by turn, so that a slow moment of the machine falls on all alike */
+    for (int r = 0; r < REPETITIONS; r++)
+        for (int i = 0; i < JOBS; i++)
+            repeat(&jobs[i]);
+    print_rows();
+    return print_sums();
+}

@@ -1,0 +1,398 @@
+/* The document's rules in plain C, as a careful programmer writes them who proves nothing. The table stands in memory once, for all
+   calls; numbers are whole and have 64 bits, but for the window and the pen's last step. */
+#include "twin.h"
+#include "table.h" /* static const uint64_t sines[], out of the Rattle source */
+
+void *memchr(const void *, int, size_t);
+int memcmp(const void *, const void *, size_t);
+void *memcpy(void *restrict, const void *restrict, size_t);
+
+enum {
+    TEXT = 1, HEADER, LINE, NUMBER, MARK, LATITUDE, LONGITUDE, ORDER, POINTS, ROOM, PLACE, WINDOW, DIVISOR, MERIDIAN
+};
+
+enum { ROWS = 4500, STEP = 200000, QUARTER = 900000000, HALF_TURN = 1800000000, SHORTENING = 10000, SHORT_UNIT = 1000000000 };
+enum { DEGREE = 10000000, DEGREE_LENGTH = 111194927 }; /* in ticks, in millimetres */
+enum { MOST_BYTES = 60000, MOST_POINTS = 1000, NUMBERS = 3, MOST_DIVISOR = 1000000 };
+
+#define TURN 3600000000
+
+_Static_assert(sizeof sines / sizeof *sines == ROWS + 1, "the table has 4,501 entries");
+
+/* Angles and sines */
+
+static int is_latitude(int64_t z)
+{
+    return -QUARTER <= z && z <= QUARTER;
+}
+
+static int is_longitude(int64_t z)
+{
+    return -HALF_TURN <= z && z < HALF_TURN;
+}
+
+static uint32_t point_refusal(int32_t latitude, int32_t longitude)
+{
+    return !is_latitude(latitude) ? LATITUDE : !is_longitude(longitude) ? LONGITUDE : 0;
+}
+
+static uint32_t sheet_refusal(int32_t latitude, int32_t longitude, int32_t meridian)
+{
+    return !is_longitude(meridian) ? MERIDIAN : point_refusal(latitude, longitude);
+}
+
+static uint32_t size(int32_t z)
+{
+    return z < 0 ? -(uint32_t)z : (uint32_t)z;
+}
+
+/* Of an angle from 0 to 90 degrees. */
+static uint64_t long_sine(uint32_t a)
+{
+    uint32_t k = a / STEP, f = a % STEP;
+    if (k == ROWS)
+        return sines[ROWS];
+    return sines[k] + f * (sines[k + 1] - sines[k]) / STEP;
+}
+
+static uint64_t short_sine(uint32_t a)
+{
+    return long_sine(a) / SHORTENING;
+}
+
+static uint64_t short_cosine(int32_t latitude)
+{
+    return short_sine(QUARTER - size(latitude));
+}
+
+static int64_t signed_long_sine(int32_t a)
+{
+    int64_t sine = (int64_t)long_sine(size(a));
+    return a < 0 ? -sine : sine;
+}
+
+senruhobi_sine twin_long_sine(int32_t angle)
+{
+    if (!is_latitude(angle))
+        return (senruhobi_sine){.refusal = LATITUDE};
+    return (senruhobi_sine){.value = signed_long_sine(angle)};
+}
+
+senruhobi_sine twin_short_sine(int32_t angle)
+{
+    if (!is_latitude(angle))
+        return (senruhobi_sine){.refusal = LATITUDE};
+    return (senruhobi_sine){.value = signed_long_sine(angle) / SHORTENING};
+}
+
+/* Two sheets */
+
+static int64_t into_turn(int64_t d)
+{
+    return d < -HALF_TURN ? d + TURN : d >= HALF_TURN ? d - TURN : d;
+}
+
+static int64_t offset(int32_t longitude, int32_t meridian)
+{
+    return into_turn((int64_t)longitude - meridian);
+}
+
+senruhobi_place twin_cylindrical(int32_t latitude, int32_t longitude, int32_t meridian)
+{
+    uint32_t refusal = sheet_refusal(latitude, longitude, meridian);
+    if (refusal)
+        return (senruhobi_place){.refusal = refusal};
+    return (senruhobi_place){.x = offset(longitude, meridian), .y = signed_long_sine(latitude)};
+}
+
+senruhobi_place twin_sinusoidal(int32_t latitude, int32_t longitude, int32_t meridian)
+{
+    uint32_t refusal = sheet_refusal(latitude, longitude, meridian);
+    if (refusal)
+        return (senruhobi_place){.refusal = refusal};
+    return (senruhobi_place){.x = offset(longitude, meridian) * (int64_t)short_cosine(latitude), .y = latitude};
+}
+
+/* The last row whose entry is at most y. The halves are chosen without a branch, since none could be foretold. */
+static uint32_t last_row(uint64_t y)
+{
+    const uint64_t *row = sines;
+    for (size_t rows = ROWS + 1; rows > 1;) {
+        size_t half = rows / 2;
+        row = row[half] <= y ? row + half : row;
+        rows -= half;
+    }
+    return (uint32_t)(row - sines);
+}
+
+/* The last angle up to 90 degrees whose long sine is at most y. */
+static uint32_t last_angle(uint64_t y)
+{
+    uint32_t k = last_row(y);
+    if (k == ROWS)
+        return QUARTER;
+    return k * STEP + (uint32_t)(((y - sines[k] + 1) * STEP - 1) / (sines[k + 1] - sines[k]));
+}
+
+static senruhobi_point nobody(void)
+{
+    return (senruhobi_point){.refusal = PLACE};
+}
+
+/* x is an offset times the width. */
+static senruhobi_point point_at(int32_t latitude, int64_t width, int64_t x, int32_t meridian)
+{
+    if (x % width || !is_longitude(x / width))
+        return nobody();
+    return (senruhobi_point){.latitude = latitude, .longitude = (int32_t)into_turn(meridian + x / width)};
+}
+
+senruhobi_point twin_cylindrical_back(int64_t x, int64_t y, int32_t meridian)
+{
+    if (!is_longitude(meridian))
+        return (senruhobi_point){.refusal = MERIDIAN};
+    uint64_t sine = y < 0 ? -(uint64_t)y : (uint64_t)y;
+    uint32_t a = last_angle(sine);
+    if (long_sine(a) != sine)
+        return nobody();
+    return point_at(y < 0 ? -(int32_t)a : (int32_t)a, 1, x, meridian);
+}
+
+senruhobi_point twin_sinusoidal_back(int64_t x, int64_t y, int32_t meridian)
+{
+    if (!is_longitude(meridian))
+        return (senruhobi_point){.refusal = MERIDIAN};
+    if (!is_latitude(y))
+        return nobody();
+    int32_t latitude = (int32_t)y;
+    int64_t width = (int64_t)short_cosine(latitude);
+    if (width)
+        return point_at(latitude, width, x, meridian);
+    /* a pole: any longitude goes to x = 0, and the meridian's answers */
+    return x ? nobody() : (senruhobi_point){.latitude = latitude, .longitude = meridian};
+}
+
+/* Length of a leg */
+
+/* The greatest number whose square is at most h, by Newton's steps down from a power of two that is past it. */
+static uint64_t root(uint64_t h)
+{
+    if (h == 0)
+        return 0;
+    uint64_t r, next = (uint64_t)1 << (64 - __builtin_clzll(h) + 1) / 2;
+    do {
+        r = next;
+        next = (r + h / r) / 2;
+    } while (next < r);
+    return r;
+}
+
+/* The greatest angle up to 90 degrees whose short sine is at most r. */
+static uint32_t greatest_angle(uint64_t r)
+{
+    return r >= SHORT_UNIT ? QUARTER : last_angle(r * SHORTENING + SHORTENING - 1);
+}
+
+/* m × s / 10^9: the product reaches 10^27, so s is split at 10^9, where each part fits 64 bits. */
+static uint64_t scaled(uint64_t m, uint64_t s)
+{
+    return m * (s / SHORT_UNIT) + m * (s % SHORT_UNIT) / SHORT_UNIT;
+}
+
+static uint64_t leg_length(int32_t latitude1, int32_t longitude1, int32_t latitude2, int32_t longitude2)
+{
+    int64_t d = (int64_t)longitude1 - longitude2;
+    if (d < 0)
+        d = -d;
+    uint64_t p = short_sine(size(latitude1 - latitude2) / 2);
+    uint64_t q = short_sine((uint32_t)((d <= TURN - d ? d : TURN - d) / 2));
+    uint64_t m = short_cosine(latitude1) * short_cosine(latitude2) / SHORT_UNIT;
+    uint64_t arc = 2 * (uint64_t)greatest_angle(root(p * p + scaled(m, q * q)));
+    return arc * DEGREE_LENGTH / DEGREE;
+}
+
+senruhobi_length twin_leg(int32_t latitude1, int32_t longitude1, int32_t latitude2, int32_t longitude2)
+{
+    uint32_t refusal = point_refusal(latitude1, longitude1);
+    if (!refusal)
+        refusal = point_refusal(latitude2, longitude2);
+    if (refusal)
+        return (senruhobi_length){.refusal = refusal};
+    return (senruhobi_length){.millimetres = leg_length(latitude1, longitude1, latitude2, longitude2)};
+}
+
+/* Route text */
+
+typedef struct { const uint8_t *from, *end; } piece;
+
+/* How a number is written: its mark, the one that it may not have, how many decimals at the most, and whether with a minus. */
+typedef struct { uint8_t mark, other; int decimals, minus; } form;
+
+static const uint8_t *find(piece s, uint8_t byte)
+{
+    return memchr(s.from, byte, (size_t)(s.end - s.from));
+}
+
+/* At most so many digits, put behind those of the value. Answers how many there were. */
+static int digits(piece *s, int most, int64_t *value)
+{
+    int n = 0;
+    for (; n < most && s->from < s->end && *s->from >= '0' && *s->from <= '9'; n++)
+        *value = *value * 10 + (*s->from++ - '0');
+    return n;
+}
+
+/* A number in units of its last decimal. One that keeps its rule has no other mark, so that is looked for only in one that does not. */
+static uint32_t read_number(piece s, form as, int64_t *value)
+{
+    static const int64_t tens[] = {1, 10, 100, 1000, 10000, 100000, 1000000, 10000000};
+    piece rest = s;
+    int minus = as.minus && rest.from < rest.end && *rest.from == '-', decimals = 0;
+    rest.from += minus;
+    *value = 0;
+    int good = digits(&rest, 3, value) > 0;
+    if (good && rest.from < rest.end && *rest.from == as.mark) {
+        rest.from++;
+        decimals = digits(&rest, as.decimals, value);
+        good = decimals > 0;
+    }
+    if (!good || rest.from < rest.end)
+        return find(s, as.other) ? MARK : NUMBER;
+    *value *= tens[as.decimals - decimals];
+    if (minus)
+        *value = -*value;
+    return 0;
+}
+
+typedef struct {
+    uint8_t mark, other;
+    uint8_t before; /* the kind of the line before */
+    uint32_t line, points, has_target;
+    uint64_t target;
+    int32_t buffer[NUMBERS * MOST_POINTS];
+} route;
+
+static uint32_t read_gap(route *r)
+{
+    return r->before == 'p' ? 0 : ORDER;
+}
+
+static uint32_t read_target(route *r, piece field)
+{
+    int64_t metres;
+    if (r->line != 2)
+        return ORDER;
+    uint32_t refusal = read_number(field, (form){r->mark, r->other, .decimals = 3}, &metres);
+    if (refusal)
+        return refusal;
+    r->has_target = 1;
+    r->target = (uint64_t)metres * 1000;
+    return 0;
+}
+
+static uint32_t read_point(route *r, piece first, piece second)
+{
+    const form degrees = {r->mark, r->other, .decimals = 7, .minus = 1};
+    int64_t latitude, longitude;
+    if (r->points == MOST_POINTS)
+        return POINTS;
+    uint32_t refusal = read_number(first, degrees, &latitude);
+    if (refusal || !is_latitude(latitude))
+        return refusal ? refusal : LATITUDE;
+    refusal = read_number(second, degrees, &longitude);
+    if (refusal || !is_longitude(longitude))
+        return refusal ? refusal : LONGITUDE;
+    int32_t *point = r->buffer + NUMBERS * r->points++;
+    point[0] = (int32_t)latitude;
+    point[1] = (int32_t)longitude;
+    point[2] = r->before != 'p';
+    return 0;
+}
+
+/* The number of fields and the kind have to agree before anything else is judged. */
+static uint32_t read_line(route *r, piece s)
+{
+    uint8_t kind = s.from < s.end ? *s.from++ : 0;
+    if (s.from == s.end)
+        return kind == 'g' ? read_gap(r) : LINE;
+    if (*s.from++ != '\t')
+        return LINE;
+    const uint8_t *tab = find(s, '\t');
+    if (!tab)
+        return kind == 't' ? read_target(r, s) : LINE;
+    piece second = {tab + 1, s.end};
+    if (kind != 'p' || find(second, '\t'))
+        return LINE;
+    return read_point(r, (piece){s.from, tab}, second);
+}
+
+static senruhobi_reading refused(uint32_t refusal, uint32_t line)
+{
+    return (senruhobi_reading){.refusal = refusal, .line = line};
+}
+
+static uint64_t measure(const int32_t *points, uint32_t n)
+{
+    uint64_t length = 0;
+    for (const int32_t *at = points + NUMBERS; at < points + NUMBERS * n; at += NUMBERS)
+        if (!at[2])
+            length += leg_length(at[-3], at[-2], at[0], at[1]);
+    return length;
+}
+
+/* The points go into a buffer of our own first: nothing is written to the lent one before the last line is judged. */
+senruhobi_reading twin_read_route(const uint8_t *text, size_t bytes, int32_t *buffer, size_t numbers)
+{
+    static const char point[] = "route\tpoint\n", comma[] = "route\tcomma\n";
+    const size_t header = sizeof point - 1;
+    if (bytes > MOST_BYTES)
+        return refused(TEXT, 0);
+    route r;
+    r.before = 0, r.points = 0, r.has_target = 0, r.target = 0;
+    if (bytes >= header && memcmp(text, point, header) == 0)
+        r.mark = '.', r.other = ',';
+    else if (bytes >= header && memcmp(text, comma, header) == 0)
+        r.mark = ',', r.other = '.';
+    else
+        return refused(HEADER, 1);
+    piece rest = {text + header, text + bytes};
+    for (r.line = 2; rest.from < rest.end; r.line++) {
+        const uint8_t *lf = find(rest, '\n');
+        uint8_t kind = *rest.from;
+        uint32_t refusal = lf ? read_line(&r, (piece){rest.from, lf}) : LINE;
+        if (refusal)
+            return refused(refusal, r.line);
+        r.before = kind;
+        rest.from = lf + 1;
+    }
+    if (r.before == 'g')
+        return refused(ORDER, r.line - 1);
+    if (numbers < NUMBERS * r.points)
+        return refused(ROOM, 0);
+    memcpy(buffer, r.buffer, NUMBERS * r.points * sizeof *buffer);
+    return (senruhobi_reading){.points = r.points, .has_target = r.has_target, .length = measure(r.buffer, r.points), .target = r.target};
+}
+
+/* The pen */
+
+/* An edge that is NaN is below nothing. */
+static uint32_t pen_refusal(double left, double right, double bottom, double top, uint32_t divisor)
+{
+    return !(left < right && bottom < top) ? WINDOW : divisor < 1 || divisor > MOST_DIVISOR ? DIVISOR : 0;
+}
+
+senruhobi_step twin_pen_step(uint32_t pen, double left, double right, double bottom, double top,
+                             uint32_t divisor, int32_t meridian, int32_t latitude, int32_t longitude, int32_t third)
+{
+    uint32_t refusal = pen_refusal(left, right, bottom, top, divisor);
+    if (!refusal)
+        refusal = sheet_refusal(latitude, longitude, meridian);
+    if (refusal)
+        return (senruhobi_step){.refusal = refusal, .pen = pen};
+    int64_t x = offset(longitude, meridian) * (int64_t)short_cosine(latitude) / SHORT_UNIT * DEGREE_LENGTH / DEGREE;
+    int64_t y = (int64_t)latitude * DEGREE_LENGTH / DEGREE;
+    if (!(left <= (double)x && (double)x <= right && bottom <= (double)y && (double)y <= top))
+        return (senruhobi_step){.pen = 0};
+    uint32_t stroke = pen && third == 0 ? 2 : 1;
+    return (senruhobi_step){.stroke = stroke, .x = (double)x / divisor, .y = (double)y / divisor, .pen = 1};
+}

@@ -1,0 +1,140 @@
+/* The usual floating-point way: sin, cos, asin and sqrt of the C library, the haversine, numbers read by strtod. Ranges are checked, and
+   nothing else that the document asks: answers are near, not exact, and a text may be read that should be refused. */
+#include "usual.h"
+
+double asin(double);
+double cos(double);
+double sin(double);
+double sqrt(double);
+double strtod(const char *restrict, char **restrict);
+int strncmp(const char *, const char *, size_t);
+
+#define RADIUS 6371000000.0 /* millimetres */
+#define RADIAN (3.14159265358979323846 / 180)
+
+static int is_latitude(double degrees)
+{
+    return -90 <= degrees && degrees <= 90;
+}
+
+static int is_longitude(double degrees)
+{
+    return -180 <= degrees && degrees < 180;
+}
+
+static int is_point(double latitude, double longitude)
+{
+    return is_latitude(latitude) && is_longitude(longitude);
+}
+
+static double into_turn(double degrees)
+{
+    return degrees < -180 ? degrees + 360 : degrees >= 180 ? degrees - 360 : degrees;
+}
+
+usual_number usual_sine(double angle)
+{
+    if (!is_latitude(angle))
+        return (usual_number){.refused = 1};
+    return (usual_number){.value = sin(angle * RADIAN)};
+}
+
+usual_place usual_cylindrical(double latitude, double longitude, double meridian)
+{
+    if (!is_longitude(meridian) || !is_point(latitude, longitude))
+        return (usual_place){.refused = 1};
+    return (usual_place){.x = RADIUS * RADIAN * into_turn(longitude - meridian), .y = RADIUS * sin(latitude * RADIAN)};
+}
+
+usual_place usual_sinusoidal(double latitude, double longitude, double meridian)
+{
+    if (!is_longitude(meridian) || !is_point(latitude, longitude))
+        return (usual_place){.refused = 1};
+    return (usual_place){.x = RADIUS * RADIAN * into_turn(longitude - meridian) * cos(latitude * RADIAN),
+                         .y = RADIUS * RADIAN * latitude};
+}
+
+static usual_point point_at(double latitude, double offset, double meridian)
+{
+    if (!is_point(latitude, offset))
+        return (usual_point){.refused = 1};
+    return (usual_point){.latitude = latitude, .longitude = into_turn(meridian + offset)};
+}
+
+usual_point usual_cylindrical_back(double x, double y, double meridian)
+{
+    if (!is_longitude(meridian) || !(-RADIUS <= y && y <= RADIUS))
+        return (usual_point){.refused = 1};
+    return point_at(asin(y / RADIUS) / RADIAN, x / (RADIUS * RADIAN), meridian);
+}
+
+usual_point usual_sinusoidal_back(double x, double y, double meridian)
+{
+    double latitude = y / (RADIUS * RADIAN);
+    if (!is_longitude(meridian) || !is_latitude(latitude))
+        return (usual_point){.refused = 1};
+    return point_at(latitude, x / (RADIUS * RADIAN * cos(latitude * RADIAN)), meridian);
+}
+
+static double leg_length(double latitude1, double longitude1, double latitude2, double longitude2)
+{
+    double p = sin((latitude2 - latitude1) * RADIAN / 2), q = sin((longitude2 - longitude1) * RADIAN / 2);
+    double h = p * p + cos(latitude1 * RADIAN) * cos(latitude2 * RADIAN) * q * q;
+    return 2 * RADIUS * asin(h < 1 ? sqrt(h) : 1);
+}
+
+usual_number usual_leg(double latitude1, double longitude1, double latitude2, double longitude2)
+{
+    if (!is_point(latitude1, longitude1) || !is_point(latitude2, longitude2))
+        return (usual_number){.refused = 1};
+    return (usual_number){.value = leg_length(latitude1, longitude1, latitude2, longitude2)};
+}
+
+/* The text ends in a zero byte. */
+usual_reading usual_read_route(const char *text, double *buffer, size_t numbers)
+{
+    static const char header[] = "route\tpoint\n";
+    const usual_reading refused = {.refused = 1};
+    usual_reading r = {0};
+    int joined = 0;
+    if (strncmp(text, header, sizeof header - 1) != 0)
+        return refused;
+    char *end;
+    for (const char *line = text + sizeof header - 1; *line; line = end + 1) {
+        double *point = buffer + 3 * r.points;
+        if (*line == 'p' && numbers >= 3 * (size_t)(r.points + 1)) {
+            point[0] = strtod(line + 2, &end);
+            point[1] = strtod(end + 1, &end);
+            point[2] = !joined;
+            if (!is_point(point[0], point[1]))
+                return refused;
+            if (joined)
+                r.length += leg_length(point[-3], point[-2], point[0], point[1]);
+            r.points++;
+        } else if (*line == 't') {
+            r.has_target = 1;
+            r.target = 1e6 * strtod(line + 2, &end);
+        } else if (*line == 'g') {
+            end = (char *)line + 1;
+        } else {
+            return refused;
+        }
+        if (*end != '\n')
+            return refused;
+        joined = *line == 'p';
+    }
+    return r;
+}
+
+usual_step usual_pen_step(int pen, double left, double right, double bottom, double top,
+                          double divisor, double meridian, double latitude, double longitude, int third)
+{
+    if (!(left < right && bottom < top) || !(1 <= divisor && divisor <= 1000000))
+        return (usual_step){.refused = 1, .pen = pen};
+    usual_place at = usual_sinusoidal(latitude, longitude, meridian);
+    if (at.refused)
+        return (usual_step){.refused = 1, .pen = pen};
+    if (!(left <= at.x && at.x <= right && bottom <= at.y && at.y <= top))
+        return (usual_step){.pen = 0};
+    return (usual_step){.stroke = pen && third == 0 ? 2 : 1, .x = at.x / divisor, .y = at.y / divisor, .pen = 1};
+}

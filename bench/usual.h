@@ -1,0 +1,21 @@
+/* The doors' jobs done the usual way: degrees, millimetres and pixels are doubles. */
+#ifndef USUAL_H
+#define USUAL_H
+#include <stddef.h>
+
+typedef struct { int refused; double value; } usual_number;
+typedef struct { int refused; double x, y; } usual_place;
+typedef struct { int refused; double latitude, longitude; } usual_point;
+typedef struct { int refused, points, has_target; double length, target; } usual_reading;
+typedef struct { int refused, stroke; double x, y; int pen; } usual_step;
+
+usual_number usual_sine(double angle);
+usual_place usual_cylindrical(double latitude, double longitude, double meridian);
+usual_place usual_sinusoidal(double latitude, double longitude, double meridian);
+usual_point usual_cylindrical_back(double x, double y, double meridian);
+usual_point usual_sinusoidal_back(double x, double y, double meridian);
+usual_number usual_leg(double latitude1, double longitude1, double latitude2, double longitude2);
+usual_reading usual_read_route(const char *text, double *buffer, size_t numbers);
+usual_step usual_pen_step(int pen, double left, double right, double bottom, double top,
+                          double divisor, double meridian, double latitude, double longitude, int third);
+#endif

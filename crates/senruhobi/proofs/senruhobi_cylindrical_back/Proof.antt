@@ -1,0 +1,24 @@
+-- `senruhobi::senruhobi_cylindrical_back` meets its contract.
+-- Assumes nothing.
+use borrow.Author.Needs.{needs}
+use mathlib.Core.Path.{ap, _∙_}
+use mir.Facts.{toZ-ofZ}
+use Rattle.globe.specs.declared.Point.{Point}
+use Rattle.globe.specs.Paper.{pointPaper}
+use Rattle.senruhobi.specs.Doors.{pointOut}
+use Rattle.senruhobi.proofs.senruhobi_cylindrical_back.Statement.{statement}
+use Rattle.senruhobi.proofs.senruhobi_cylindrical_back.Tie as tie
+
+cylindrical-back-requires : tie.Need-cylindrical-back-requires
+cylindrical-back-requires c κs = search needs
+
+point-requires : tie.Need-point-requires
+point-requires c κs = search needs
+
+returns : tie.Need-returns
+returns c =
+    let f = c .before .before .fits in
+    c .point .ensures ∙ ap (λ (a : Point). pointOut (pointPaper a)) (rw (toZ-ofZ (f .x), toZ-ofZ (f .y), toZ-ofZ (f .meridian)) at (c .before .cylindrical-back .ensures))
+
+pub senruhobi-cylindrical-back-spec : {M : Type 1} → statement M
+senruhobi-cylindrical-back-spec = tie.close (tie.spec cylindrical-back-requires point-requires returns)

@@ -1,0 +1,24 @@
+-- `senruhobi::senruhobi_long_sine` meets its contract.
+-- Assumes nothing.
+use borrow.Author.Needs.{needs}
+use mathlib.Core.Path.{ap, _∙_}
+use mir.Facts.{toZ-ofZ}
+use Rattle.globe.specs.declared.Sine.{Sine}
+use Rattle.globe.specs.Paper.{sinePaper}
+use Rattle.senruhobi.specs.Doors.{sineOut}
+use Rattle.senruhobi.proofs.senruhobi_long_sine.Statement.{statement}
+use Rattle.senruhobi.proofs.senruhobi_long_sine.Tie as tie
+
+long-sine-requires : tie.Need-long-sine-requires
+long-sine-requires c κs = search needs
+
+sine-requires : tie.Need-sine-requires
+sine-requires c κs = search needs
+
+returns : tie.Need-returns
+returns c =
+    let f = c .before .before .fits in
+    c .sine .ensures ∙ ap (λ (a : Sine). sineOut (sinePaper a)) (rw (toZ-ofZ (f .angle)) at (c .before .long-sine .ensures))
+
+pub senruhobi-long-sine-spec : {M : Type 1} → statement M
+senruhobi-long-sine-spec = tie.close (tie.spec long-sine-requires sine-requires returns)

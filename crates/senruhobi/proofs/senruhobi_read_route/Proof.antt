@@ -1,0 +1,26 @@
+-- `senruhobi::senruhobi_read_route` meets its contract.
+-- Assumes nothing.
+use borrow.Author.Needs.{needs}
+use mathlib.Core.Path.{ap, _∙_}
+use Rattle.route.specs.declared.Reading.{Reading}
+use Rattle.route.specs.Paper.{readingPaper}
+use Rattle.senruhobi.specs.Doors.{readingOut}
+use Rattle.senruhobi.proofs.senruhobi_read_route.Statement.{statement}
+use Rattle.senruhobi.proofs.senruhobi_read_route.Tie as tie
+
+read-requires : tie.Need-read-requires
+read-requires c κs = search needs
+
+reading-requires : tie.Need-reading-requires
+reading-requires c κs = search needs
+
+same-length : tie.Need-same-length
+same-length c = search needs
+
+returns : tie.Need-returns
+returns c =
+    let r = c .before .before in
+    (c .reading .ensures ∙ ap (λ (a : Reading). readingOut (readingPaper a)) (r .read .ensures .0), r .read .ensures .1)
+
+pub senruhobi-read-route-spec : {M : Type 1} → statement M
+senruhobi-read-route-spec = tie.close (tie.spec read-requires reading-requires same-length returns)

@@ -1,0 +1,24 @@
+-- `senruhobi::senruhobi_short_sine` meets its contract.
+-- Assumes nothing.
+use borrow.Author.Needs.{needs}
+use mathlib.Core.Path.{ap, _∙_}
+use mir.Facts.{toZ-ofZ}
+use Rattle.globe.specs.declared.Sine.{Sine}
+use Rattle.globe.specs.Paper.{sinePaper}
+use Rattle.senruhobi.specs.Doors.{sineOut}
+use Rattle.senruhobi.proofs.senruhobi_short_sine.Statement.{statement}
+use Rattle.senruhobi.proofs.senruhobi_short_sine.Tie as tie
+
+short-sine-requires : tie.Need-short-sine-requires
+short-sine-requires c κs = search needs
+
+sine-requires : tie.Need-sine-requires
+sine-requires c κs = search needs
+
+returns : tie.Need-returns
+returns c =
+    let f = c .before .before .fits in
+    c .sine .ensures ∙ ap (λ (a : Sine). sineOut (sinePaper a)) (rw (toZ-ofZ (f .angle)) at (c .before .short-sine .ensures))
+
+pub senruhobi-short-sine-spec : {M : Type 1} → statement M
+senruhobi-short-sine-spec = tie.close (tie.spec short-sine-requires sine-requires returns)

@@ -1,0 +1,155 @@
+// The doors for C and for what can call C: numbers and slices in, a struct by value out. In `refusal` 0 means accepted; beside a refusal every
+// field is 0, but for the pen of a step, which is the one that came in. include/senruhobi.h declares the same for C.
+ghost use mathlib.Core.Path.{_≡_};
+ghost use lib.ListN.{length};
+ghost use Rattle.globe.specs.Paper.{sinePaper, placePaper, pointPaper, lengthPaper};
+ghost use Rattle.globe.specs.Angle.{longSineOf, shortSineOf};
+ghost use Rattle.globe.specs.Sheet.{cylindricalOf, sinusoidalOf, cylindricalBackOf, sinusoidalBackOf};
+ghost use Rattle.globe.specs.Leg.{legOf};
+ghost use Rattle.route.specs.Paper.{readingPaper};
+ghost use Rattle.route.specs.Route.{readingOf, bufferOf};
+ghost use Rattle.pen.specs.Pen.{stepOf};
+ghost use Rattle.senruhobi.specs.Doors.{sineOut, placeOut, pointOut, lengthOut, readingOut, stepOut, penIn, windowIn};
+
+mod out;
+
+use pen::Pen;
+use pen::Window;
+
+#[repr(C)]
+pub struct SineOut {
+    pub refusal: u32,
+    pub value: i64,
+}
+
+#[repr(C)]
+pub struct PlaceOut {
+    pub refusal: u32,
+    pub x: i64,
+    pub y: i64,
+}
+
+#[repr(C)]
+pub struct PointOut {
+    pub refusal: u32,
+    pub latitude: i32,
+    pub longitude: i32,
+}
+
+#[repr(C)]
+pub struct LengthOut {
+    pub refusal: u32,
+    pub millimetres: u64,
+}
+
+#[repr(C)]
+pub struct ReadingOut {
+    pub refusal: u32,
+    pub line: u32,
+    pub points: u32,
+    pub has_target: u32,
+    pub length: u64,
+    pub target: u64,
+}
+
+// stroke: 0 outside, 1 move, 2 line. pen: 0 up, 1 down; beside a refusal the number that came in.
+#[repr(C)]
+pub struct StepOut {
+    pub refusal: u32,
+    pub stroke: u32,
+    pub x: f64,
+    pub y: f64,
+    pub pen: u32,
+}
+
+#[no_mangle]
+pub extern "C" fn senruhobi_long_sine(angle: i32) -> SineOut
+    ensures { λ r. ⌜ r ≡ sineOut (sinePaper (longSineOf angle)) ⌝ }
+{
+    out::sine(globe::long_sine(angle))
+}
+
+#[no_mangle]
+pub extern "C" fn senruhobi_short_sine(angle: i32) -> SineOut
+    ensures { λ r. ⌜ r ≡ sineOut (sinePaper (shortSineOf angle)) ⌝ }
+{
+    out::sine(globe::short_sine(angle))
+}
+
+#[no_mangle]
+pub extern "C" fn senruhobi_cylindrical(latitude: i32, longitude: i32, meridian: i32) -> PlaceOut
+    ensures { λ r. ⌜ r ≡ placeOut (placePaper (cylindricalOf latitude longitude meridian)) ⌝ }
+{
+    out::place(globe::cylindrical(latitude, longitude, meridian))
+}
+
+#[no_mangle]
+pub extern "C" fn senruhobi_sinusoidal(latitude: i32, longitude: i32, meridian: i32) -> PlaceOut
+    ensures { λ r. ⌜ r ≡ placeOut (placePaper (sinusoidalOf latitude longitude meridian)) ⌝ }
+{
+    out::place(globe::sinusoidal(latitude, longitude, meridian))
+}
+
+#[no_mangle]
+pub extern "C" fn senruhobi_cylindrical_back(x: i64, y: i64, meridian: i32) -> PointOut
+    ensures { λ r. ⌜ r ≡ pointOut (pointPaper (cylindricalBackOf x y meridian)) ⌝ }
+{
+    out::point(globe::cylindrical_back(x, y, meridian))
+}
+
+#[no_mangle]
+pub extern "C" fn senruhobi_sinusoidal_back(x: i64, y: i64, meridian: i32) -> PointOut
+    ensures { λ r. ⌜ r ≡ pointOut (pointPaper (sinusoidalBackOf x y meridian)) ⌝ }
+{
+    out::point(globe::sinusoidal_back(x, y, meridian))
+}
+
+#[no_mangle]
+pub extern "C" fn senruhobi_leg(
+    latitude1: i32,
+    longitude1: i32,
+    latitude2: i32,
+    longitude2: i32,
+) -> LengthOut
+    ensures { λ r. ⌜ r ≡ lengthOut (lengthPaper (legOf latitude1 longitude1 latitude2 longitude2)) ⌝ }
+{
+    out::length(globe::leg(latitude1, longitude1, latitude2, longitude2))
+}
+
+// A slice is a pointer and a count for C.
+#[no_mangle]
+pub extern "C" fn senruhobi_read_route(text: &[u8], buffer: &mut [i32]) -> ReadingOut
+    ensures { λ r. ⌜ r ≡ readingOut (readingPaper (readingOf (now (text .entry)) (length (now (buffer .entry))))) ⌝ }
+    ensures { λ r. ⌜ now (buffer .exit) ≡ bufferOf (now (text .entry)) (now (buffer .entry)) ⌝ }
+{
+    out::reading(route::read(text, buffer))
+}
+
+// pen: 0 up, any other number down.
+#[no_mangle]
+pub extern "C" fn senruhobi_pen_step(
+    pen: u32,
+    left: f64,
+    right: f64,
+    bottom: f64,
+    top: f64,
+    divisor: u32,
+    meridian: i32,
+    latitude: i32,
+    longitude: i32,
+    third: i32,
+) -> StepOut
+    ensures { λ r. ⌜ r ≡ stepOut pen (stepOf (penIn pen) (windowIn left right bottom top) divisor meridian latitude longitude third) ⌝ }
+{
+    let before = Pen { down: pen != 0 };
+    let window = Window {
+        left,
+        right,
+        bottom,
+        top,
+    };
+    out::step(
+        pen,
+        before.step(window, divisor, meridian, latitude, longitude, third),
+    )
+}

@@ -1,0 +1,172 @@
+// Each answer as the struct that goes out: the paper's number and values, zeros beside a refusal.
+ghost use mathlib.Core.Path.{_≡_};
+ghost use Rattle.globe.specs.Paper.{sinePaper, placePaper, pointPaper, lengthPaper};
+ghost use Rattle.route.specs.declared.Reading.the-variants.{Route};
+ghost use Rattle.route.specs.Paper.{readingPaper};
+ghost use Rattle.pen.specs.Paper.{penPaper};
+ghost use Rattle.senruhobi.specs.Doors.{sineOut, placeOut, pointOut, lengthOut, readingOut, drawnOut, stepOut};
+use crate::LengthOut;
+use crate::PlaceOut;
+use crate::PointOut;
+use crate::ReadingOut;
+use crate::SineOut;
+use crate::StepOut;
+use globe::Length;
+use globe::Place;
+use globe::Point;
+use globe::Sine;
+use pen::Answer;
+use pen::Pen;
+use pen::Step;
+use pen::Stroke;
+use route::Reading;
+use route::Target;
+
+pub(crate) fn sine(s: Sine) -> SineOut
+    ensures { λ r. ⌜ r ≡ sineOut (sinePaper s) ⌝ }
+{
+    match s {
+        Sine::Value(value) => SineOut { refusal: 0, value },
+        Sine::Refused(refusal) => SineOut { refusal, value: 0 },
+    }
+}
+
+pub(crate) fn place(p: Place) -> PlaceOut
+    ensures { λ r. ⌜ r ≡ placeOut (placePaper p) ⌝ }
+{
+    match p {
+        Place::At(x, y) => PlaceOut { refusal: 0, x, y },
+        Place::Refused(refusal) => PlaceOut {
+            refusal,
+            x: 0,
+            y: 0,
+        },
+    }
+}
+
+pub(crate) fn point(p: Point) -> PointOut
+    ensures { λ r. ⌜ r ≡ pointOut (pointPaper p) ⌝ }
+{
+    match p {
+        Point::At(latitude, longitude) => PointOut {
+            refusal: 0,
+            latitude,
+            longitude,
+        },
+        Point::Refused(refusal) => PointOut {
+            refusal,
+            latitude: 0,
+            longitude: 0,
+        },
+    }
+}
+
+pub(crate) fn length(l: Length) -> LengthOut
+    ensures { λ r. ⌜ r ≡ lengthOut (lengthPaper l) ⌝ }
+{
+    match l {
+        Length::Millimetres(millimetres) => LengthOut {
+            refusal: 0,
+            millimetres,
+        },
+        Length::Refused(refusal) => LengthOut {
+            refusal,
+            millimetres: 0,
+        },
+    }
+}
+
+fn accepted(points: u32, length: u64, target: Target) -> ReadingOut
+    ensures { λ r. ⌜ r ≡ readingOut (readingPaper (Route points length target)) ⌝ }
+{
+    match target {
+        Target::None => ReadingOut {
+            refusal: 0,
+            line: 0,
+            points,
+            has_target: 0,
+            length,
+            target: 0,
+        },
+        Target::Millimetres(target) => ReadingOut {
+            refusal: 0,
+            line: 0,
+            points,
+            has_target: 1,
+            length,
+            target,
+        },
+    }
+}
+
+pub(crate) fn reading(r: Reading) -> ReadingOut
+    ensures { λ r′. ⌜ r′ ≡ readingOut (readingPaper r) ⌝ }
+{
+    match r {
+        Reading::Route {
+            points,
+            length,
+            target,
+        } => accepted(points, length, target),
+        Reading::Refused(refusal, line) => ReadingOut {
+            refusal,
+            line,
+            points: 0,
+            has_target: 0,
+            length: 0,
+            target: 0,
+        },
+    }
+}
+
+fn pen(p: Pen) -> u32
+    ensures { λ r. ⌜ r ≡ penPaper p ⌝ }
+{
+    if p.down { 1 } else { 0 }
+}
+
+fn drawn(stroke: Stroke, next: u32) -> StepOut
+    ensures { λ r. ⌜ r ≡ drawnOut stroke next ⌝ }
+{
+    match stroke {
+        Stroke::Outside => StepOut {
+            refusal: 0,
+            stroke: 0,
+            x: 0.0,
+            y: 0.0,
+            pen: next,
+        },
+        Stroke::Move(x, y) => StepOut {
+            refusal: 0,
+            stroke: 1,
+            x,
+            y,
+            pen: next,
+        },
+        Stroke::Line(x, y) => StepOut {
+            refusal: 0,
+            stroke: 2,
+            x,
+            y,
+            pen: next,
+        },
+    }
+}
+
+// `got` is the number of the pen that came in.
+pub(crate) fn step(got: u32, s: Step) -> StepOut
+    ensures { λ r. ⌜ r ≡ stepOut got s ⌝ }
+{
+    let next = pen(s.next);
+    let answer = s.answer;
+    match answer {
+        Answer::Drawn(stroke) => drawn(stroke, next),
+        Answer::Refused(refusal) => StepOut {
+            refusal,
+            stroke: 0,
+            x: 0.0,
+            y: 0.0,
+            pen: got,
+        },
+    }
+}

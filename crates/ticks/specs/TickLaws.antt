@@ -1,0 +1,194 @@
+-- What the ranges, the turn and the refusals of a point say, as facts that `omega` reads.
+-- Assumes nothing.
+use mathlib.Core.Path.{_≡_, refl, sym, ap, _∙_}
+use mathlib.Core.Bool.{Bool, true, false, not, _&&_}
+use Prim.Native.Nat.{ℕ, zero, suc, _+_, _*_, _≤_, _<_}
+use native.Mathlib.Nat.{mul-le-mul}
+use native.Mathlib.Omega.{arith}
+use borrow.Author.Tests.{not-true, not-false}
+use lib.IntN.{ℤ, pos, negℤ, natAbs, _+ℤ_, _-ℤ_, _*ℤ_}
+use lib.Signed.{ltZ, leZ}
+use mir.Syntax.{w32, w64}
+use mir.Val.{SFits}
+use Rattle.signed.specs.Sides.{above, below, one-side, same, add-sides, sub-sides, mul-above, mul-below, size-sides}
+use Rattle.signed.specs.Tests.{ltZ-true, ltZ-false, leZ-true, leZ-false, lt-ltZ, le-leZ}
+use Rattle.signed.specs.Machine.{fits-of}
+use Rattle.ticks.specs.Refusal.{LATITUDE, LONGITUDE, MERIDIAN}
+use Rattle.ticks.specs.Choice.{unless, if_then_else_, firstOf}
+use Rattle.ticks.specs.Ticks.{north, halfTurn, turn, isLatitude, isLongitude, turned, offsetOf, pointRefusal, sheetRefusal}
+
+-- ---- tests
+
+-- both halves of a test by &&, and back
+pub and-true : (a b : Bool) → a && b ≡ true → (a ≡ true) × (b ≡ true)
+and-true true b e = (refl, e)
+and-true false b e = let z : _≡_ {A = ℕ} 0 1 = cc in absurd (omega arith)
+
+pub true-and : {a b : Bool} → a ≡ true → b ≡ true → a && b ≡ true
+true-and p q = rw (p, q)
+
+-- what a callee's test tells after `if !f(y) { return .. }`: y is what the machine read, x the number itself
+pub passed : (f : ℤ → Bool) {x y : ℤ} {r : Bool} → y ≡ x → r ≡ f y → not r ≡ false → f x ≡ true
+passed f e h t = sym (ap f e) ∙ sym h ∙ not-false _ t
+
+pub failed : (f : ℤ → Bool) {x y : ℤ} {r : Bool} → y ≡ x → r ≡ f y → not r ≡ true → f x ≡ false
+failed f e h t = sym (ap f e) ∙ sym h ∙ not-true _ t
+
+-- ---- the ranges
+
+pub record Latitude (z : ℤ) : Type 0 where
+  pub north : above z ≤ 900_000_000
+  pub south : below z ≤ 900_000_000
+
+pub record Longitude (z : ℤ) : Type 0 where
+  pub east : above z < 1_800_000_000
+  pub west : below z ≤ 1_800_000_000
+
+pub latitude : (z : ℤ) → isLatitude z ≡ true → Latitude z
+latitude z e =
+    let p = and-true (leZ (negℤ north) z) (leZ z north) e in
+    let a = leZ-true (negℤ north) z (p .0) in
+    let b = leZ-true z north (p .1) in
+    let o = one-side z in
+    omega arith
+
+pub is-latitude : (z : ℤ) → Latitude z → isLatitude z ≡ true
+is-latitude z h = true-and (le-leZ (negℤ north) z (omega arith)) (le-leZ z north (omega arith))
+
+pub longitude : (z : ℤ) → isLongitude z ≡ true → Longitude z
+longitude z e =
+    let p = and-true (leZ (negℤ halfTurn) z) (ltZ z halfTurn) e in
+    let a = leZ-true (negℤ halfTurn) z (p .0) in
+    let b = ltZ-true z halfTurn (p .1) in
+    let o = one-side z in
+    omega arith
+
+pub is-longitude : (z : ℤ) → Longitude z → isLongitude z ≡ true
+is-longitude z h =
+    let o = one-side z in
+    true-and (le-leZ (negℤ halfTurn) z (omega arith)) (lt-ltZ z halfTurn (omega arith))
+
+-- by its size
+pub latitude-size : (z : ℤ) → isLatitude z ≡ true → natAbs z ≤ 900_000_000
+latitude-size z e = omega (arith, latitude z e, size-sides z, one-side z)
+
+pub size-latitude : (z : ℤ) → natAbs z ≤ 900_000_000 → isLatitude z ≡ true
+size-latitude z h = let s = size-sides z in is-latitude z (omega arith)
+
+pub latitude-fits : {z : ℤ} → isLatitude z ≡ true → SFits w32 z
+latitude-fits {z} e = let h = latitude z e in fits-of w32 z (omega arith) (omega arith)
+
+pub longitude-fits : {z : ℤ} → isLongitude z ≡ true → SFits w32 z
+longitude-fits {z} e = let h = longitude z e in fits-of w32 z (omega arith) (omega arith)
+
+-- ---- the turn
+
+-- `turned` adds k - 1 turns, k at most 2
+record Turned (d r : ℤ) : Type 0 where
+  k : ℕ
+  few : k ≤ 2
+  apart : above r + below d + 3_600_000_000 ≡ above d + below r + k * 3_600_000_000
+
+turned-how : (d : ℤ) → Turned d (turned d)
+turned-how d = go (ltZ d (negℤ halfTurn)) (leZ halfTurn d)
+  where
+    go : (a b : Bool) → Turned d (if a then d +ℤ turn else (if b then d -ℤ turn else d))
+    go true b = record { k = 2; few = omega arith; apart = omega (arith, add-sides d turn) }
+    go false true = record { k = 0; few = omega arith; apart = omega (arith, sub-sides d turn) }
+    go false false = record { k = 1; few = omega arith; apart = omega arith }
+
+turned-longitude : (d : ℤ) → above d < 5_400_000_000 → below d ≤ 5_400_000_000 → Longitude (turned d)
+turned-longitude d p q = go (ltZ d (negℤ halfTurn)) (leZ halfTurn d) refl refl
+  where
+    go : (a b : Bool) → ltZ d (negℤ halfTurn) ≡ a → leZ halfTurn d ≡ b → Longitude (if a then d +ℤ turn else (if b then d -ℤ turn else d))
+    go true b e f = omega (arith, ltZ-true d (negℤ halfTurn) e, one-side d, add-sides d turn, one-side (d +ℤ turn))
+    go false true e f = omega (arith, leZ-true halfTurn d f, one-side d, sub-sides d turn, one-side (d -ℤ turn))
+    go false false e f = omega (arith, ltZ-false d (negℤ halfTurn) e, leZ-false halfTurn d f, one-side d)
+
+module _ (lon meridian : ℤ) (p : isLongitude lon ≡ true) (q : isLongitude meridian ≡ true) where
+  pub offset-longitude : Longitude (offsetOf lon meridian)
+  unfolding offsetOf
+  offset-longitude =
+      let l = longitude lon p in
+      let m = longitude meridian q in
+      let s = sub-sides lon meridian in
+      let o = one-side (lon -ℤ meridian) in
+      turned-longitude (lon -ℤ meridian) (omega arith) (omega arith)
+
+  -- also where lon is an offset
+  pub sum-fits : SFits w64 (meridian +ℤ lon)
+  sum-fits =
+      let l = longitude lon p in
+      let m = longitude meridian q in
+      let s = add-sides meridian lon in
+      let o = one-side (meridian +ℤ lon) in
+      fits-of w64 (meridian +ℤ lon) (omega arith) (omega arith)
+
+  pub sum-longitude : Longitude (turned (meridian +ℤ lon))
+  sum-longitude =
+      let l = longitude lon p in
+      let m = longitude meridian q in
+      let s = add-sides meridian lon in
+      let o = one-side (meridian +ℤ lon) in
+      turned-longitude (meridian +ℤ lon) (omega arith) (omega arith)
+
+  -- the longitude comes back from its offset, and the offset from the longitude
+  pub turn-back : turned (meridian +ℤ offsetOf lon meridian) ≡ lon
+  unfolding offsetOf
+  turn-back =
+      let l = longitude lon p in
+      let m = longitude meridian q in
+      let d = lon -ℤ meridian in
+      let o = turned d in
+      let f = offset-longitude in
+      let a = add-sides meridian o in
+      let b = one-side (meridian +ℤ o) in
+      let v = turned-longitude (meridian +ℤ o) (omega arith) (omega arith) in
+      same (turned (meridian +ℤ o)) lon (omega (arith, sub-sides lon meridian, turned-how d .apart, turned-how (meridian +ℤ o) .apart, turned-how d .few, turned-how (meridian +ℤ o) .few))
+
+pub back-turn : (x meridian : ℤ) → isLongitude x ≡ true → isLongitude meridian ≡ true → offsetOf (turned (meridian +ℤ x)) meridian ≡ x
+unfolding offsetOf
+back-turn x m p q =
+    let r = turned (m +ℤ x) in
+    let l = longitude x p in
+    let h = longitude m q in
+    let v = sum-longitude x m p q in
+    let w = offset-longitude r m (is-longitude r v) q in
+    same (offsetOf r m) x (omega (arith, add-sides m x, sub-sides r m, turned-how (m +ℤ x) .apart, turned-how (r -ℤ m) .apart, turned-how (m +ℤ x) .few, turned-how (r -ℤ m) .few))
+
+pub no-offset : (meridian : ℤ) → isLongitude meridian ≡ true → offsetOf meridian meridian ≡ pos 0
+unfolding offsetOf
+no-offset m q =
+    let f = longitude (offsetOf m m) (is-longitude (offsetOf m m) (offset-longitude m m q q)) in
+    same (offsetOf m m) (pos 0) (omega (arith, sub-sides m m, turned-how (m -ℤ m) .apart, turned-how (m -ℤ m) .few))
+
+-- offset × width fits 64 bits
+pub product-fits : (d : ℤ) (w : ℕ) → Longitude d → w ≤ 1_000_000_000 → SFits w64 (d *ℤ pos w)
+product-fits d w h k =
+    let e : above d ≤ 1_800_000_000 = omega arith in
+    fits-of w64 (d *ℤ pos w) (omega (arith, mul-above d w, mul-le-mul e k)) (omega (arith, mul-below d w, mul-le-mul (h .west) k))
+
+-- ---- what nothing refuses
+
+pub unless-none : (t : Bool) (r v : ℕ) → 0 < r → unless t r v ≡ 0 → (t ≡ true) × (v ≡ 0)
+unless-none true r v h e = (refl, e)
+unless-none false r v h e = absurd (omega arith)
+
+pub first-none : (a b : ℕ) → firstOf a b ≡ 0 → (a ≡ 0) × (b ≡ 0)
+first-none zero b e = (refl, e)
+first-none (suc a) b e = absurd (omega arith)
+
+pub point-accepted : (lat lon : ℤ) → pointRefusal lat lon ≡ 0 → (isLatitude lat ≡ true) × (isLongitude lon ≡ true)
+unfolding pointRefusal
+point-accepted lat lon e =
+    let y = unless-none (isLatitude lat) LATITUDE _ (omega arith) e in
+    let x = unless-none (isLongitude lon) LONGITUDE 0 (omega arith) (y .1) in
+    (y .0, x .0)
+
+pub sheet-accepted : (lat lon meridian : ℤ) → sheetRefusal lat lon meridian ≡ 0
+    → (isLongitude meridian ≡ true) × (isLatitude lat ≡ true) × (isLongitude lon ≡ true)
+unfolding sheetRefusal
+sheet-accepted lat lon meridian e =
+    let m = unless-none (isLongitude meridian) MERIDIAN _ (omega arith) e in
+    let p = point-accepted lat lon (m .1) in
+    (m .0, p .0, p .1)

@@ -1,0 +1,49 @@
+-- "An angle is a whole number of ticks; a tick is one ten-millionth of a degree." Ranges, the offset, and what refuses a point.
+-- Assumes nothing.
+use Prim.Native.Nat.{ℕ}
+use mathlib.Core.Bool.{Bool, _&&_}
+use lib.IntN.{ℤ, pos, negℤ, _+ℤ_, _-ℤ_}
+use lib.Signed.{ltZ, leZ}
+use Rattle.sines.specs.Sine.{quarter}
+use Rattle.ticks.specs.Refusal.{LATITUDE, LONGITUDE, MERIDIAN}
+use Rattle.ticks.specs.Choice.{unless, if_then_else_}
+
+abbrev pub north : ℤ
+north = pos quarter
+
+abbrev pub halfTurn : ℤ
+halfTurn = pos 1_800_000_000
+
+abbrev pub fullTurn : ℕ
+fullTurn = 3_600_000_000
+
+abbrev pub turn : ℤ
+turn = pos fullTurn
+
+-- "Latitude runs from -900,000,000 to 900,000,000, both allowed."
+abbrev pub isLatitude : ℤ → Bool
+isLatitude z = leZ (negℤ north) z && leZ z north
+
+-- "Longitude and central meridian run from -1,800,000,000, allowed, up to but not including 1,800,000,000"
+abbrev pub isLongitude : ℤ → Bool
+isLongitude z = leZ (negℤ halfTurn) z && ltZ z halfTurn
+
+-- "A point is accepted exactly when its latitude and longitude lie in these ranges."
+abbrev pub accepted : ℤ → ℤ → Bool
+accepted lat lon = isLatitude lat && isLongitude lon
+
+-- "plus or minus a full turn where needed so that it lies in the longitude range"
+abbrev pub turned : ℤ → ℤ
+turned d = if ltZ d (negℤ halfTurn) then d +ℤ turn else (if leZ halfTurn d then d -ℤ turn else d)
+
+-- "longitude minus central meridian"
+unfoldable pub offsetOf : ℤ → ℤ → ℤ
+offsetOf lon meridian = turned (lon -ℤ meridian)
+
+-- a point's refusal: 6, then 7
+unfoldable pub pointRefusal : ℤ → ℤ → ℕ
+pointRefusal lat lon = unless (isLatitude lat) LATITUDE (unless (isLongitude lon) LONGITUDE 0)
+
+-- "Sheets: 14, 6, 7."
+unfoldable pub sheetRefusal : ℤ → ℤ → ℤ → ℕ
+sheetRefusal lat lon meridian = unless (isLongitude meridian) MERIDIAN (pointRefusal lat lon)

@@ -1,0 +1,39 @@
+/* Reads a route, prints its length, and says what a pen draws of it on a page of 1,000 metres a pixel. */
+#include <stdio.h>
+#include <senruhobi.h>
+
+static const char text[] = "route\tcomma\n"
+                           "t\t55,5\n"
+                           "p\t60\t10\n"
+                           "p\t60\t11\n"
+                           "g\n"
+                           "p\t60,5\t10,5\n"
+                           "p\t-33,9\t151,2\n";
+
+int main(void)
+{
+    int32_t numbers[3 * 1000];
+    senruhobi_reading route = senruhobi_read_route((const uint8_t *)text, sizeof text - 1, numbers, 3 * 1000);
+    if (route.refusal) {
+        printf("refused: %u at line %u\n", route.refusal, route.line);
+        return 1;
+    }
+    printf("%u points, %llu mm\n", route.points, (unsigned long long)route.length);
+    if (route.has_target)
+        printf("target %llu mm\n", (unsigned long long)route.target);
+
+    /* a window from the middle of the sheet to the north-east, in millimetres */
+    const double left = 0, right = 1e9, bottom = 0, top = 1e10;
+    uint32_t pen = 0;
+    for (const int32_t *p = numbers; p < numbers + 3 * route.points; p += 3) {
+        senruhobi_step s = senruhobi_pen_step(pen, left, right, bottom, top, 1000000, 0, p[0], p[1], p[2]);
+        if (s.refusal)
+            printf("refused: %u\n", s.refusal);
+        else if (s.stroke == 0)
+            printf("outside\n");
+        else
+            printf("%s %.6f %.6f\n", s.stroke == 1 ? "move" : "line", s.x, s.y);
+        pen = s.pen;
+    }
+    return 0;
+}

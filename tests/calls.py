@@ -1,0 +1,200 @@
+"""Calls of the doors, each a door's name and its arguments: fixed ones at the limits of every argument, and random ones with more at the
+limits than chance would bring."""
+import itertools
+import math
+
+import model
+import texts
+from figures import DOWN, GREATEST, GREATEST_64, HERE, INF, LEAST, LEAST_64, PENS, X, Y, above, below, step
+from model import HALF_TURN, QUARTER, STEP
+
+LATITUDES = [LEAST, -QUARTER - 1, -QUARTER, -QUARTER + 1, -600_000_000, -1, 0, 1, STEP, QUARTER - 1, QUARTER, QUARTER + 1, GREATEST]
+LONGITUDES = [LEAST, -HALF_TURN - 1, -HALF_TURN, -HALF_TURN + 1, -1, 0, 1, HALF_TURN - 1, HALF_TURN, HALF_TURN + 1, GREATEST]
+ENDS_64 = [LEAST_64, LEAST_64 + 1, -2**32, 2**31, 2**32, GREATEST_64]
+THIRDS = [0, 1, 2, -1, LEAST, GREATEST]
+DIVISORS = [1, 2, 3, 7, 1_000, 999_999, 1_000_000]
+BAD_DIVISORS = [0, 1_000_001, 2**31, 2**32 - 1]
+
+
+# At the limits
+
+def sines():
+    """The angles at and beside limits, entries of the table and places where the short sine changes."""
+    beside = {k * STEP + off for k in (1, 2, 1499, 1500, 2999, 4499) for off in (-1, 0, 1)}
+    ends = {*range(10), *range(QUARTER - 9, QUARTER + 1), *range(QUARTER - 3_285, QUARTER - 3_280)}
+    for sine in ('long_sine', 'short_sine'):
+        yield from ((sine, angle) for angle in sorted({*LATITUDES, *beside, *ends, *(-angle for angle in beside | ends)}))
+
+
+def sheets():
+    for point in itertools.product(LATITUDES, LONGITUDES, LONGITUDES):
+        yield ('cylindrical', *point)
+        yield ('sinusoidal', *point)
+
+
+def places():
+    """The places of points at the limits, and those beside them."""
+    latitudes = list(filter(model.latitude_in_range, LATITUDES))
+    heights = [model.long_sine(latitude) + off for latitude in latitudes for off in (-1, 0, 1)]
+    for x, y, meridian in itertools.product([*LONGITUDES, *ENDS_64], [*heights, *ENDS_64], LONGITUDES):
+        yield 'cylindrical_back', x, y, meridian
+    for latitude, meridian in itertools.product(latitudes, LONGITUDES):
+        across = [offset * model.short_cosine(latitude) + off for offset in LONGITUDES for off in (-1, 0, 1)]
+        yield from (('sinusoidal_back', x, latitude, meridian) for x in [*across, *ENDS_64])
+    for x, y, meridian in itertools.product([*LONGITUDES, *ENDS_64], [*LATITUDES, *ENDS_64], LONGITUDES):
+        yield 'sinusoidal_back', x, y, meridian
+
+
+def legs():
+    points = list(itertools.product(LATITUDES, LONGITUDES))
+    yield from (('leg', *first, *second) for first in points for second in points[::3])
+    # nearly opposite points
+    for latitude, north, east in itertools.product((0, 1, 455_000_000, QUARTER - 2), range(-3, 4), range(-3, 4)):
+        yield 'leg', latitude, -900_000_000, north - latitude, 900_000_000 + east
+    # the short sine of half this leg leaves 999,999,999
+    yield from (('leg', 0, 0, 0, HALF_TURN - off) for off in (1, 2, 3, *range(6_560, 6_570)))
+
+
+def steps():
+    for latitude, longitude, meridian in itertools.product(LATITUDES, LONGITUDES, LONGITUDES):
+        yield step(DOWN, divisor=7, meridian=meridian, point=(latitude, longitude))
+    for pen, third, divisor in itertools.product(PENS, THIRDS, [*DIVISORS, *BAD_DIVISORS]):
+        yield step(pen, divisor=divisor, third=third)
+    # windows with each edge at the point, one double beside it, at a zero, without end and without meaning
+    for point, x, y in ((HERE, X, Y), ((0, 0), 0, 0), ((0, -1), -11, 0)):
+        across, up = ([-INF, below(at), float(at), above(at), INF, 0.0, -0.0, math.nan] for at in (x, y))
+        yield from (step(DOWN, window, point=point) for window in itertools.product(across, across, up, up))
+
+
+def files(folder):
+    """The stored routes, into no room, into as much as they need and into more."""
+    for path in sorted(folder.glob('*.route')):
+        text = path.read_bytes()
+        yield from (('read_route', room, text) for room in sorted({0, 3 * min(text.count(b'\np\t'), 1_001), 3_003}))
+
+
+# Random
+
+def small(some):
+    """A number of either sign, as likely a short one as a long one."""
+    return some.choice([-1, 1]) * some.randrange(10**some.randrange(1, 10))
+
+
+def fitting(number):
+    return max(LEAST, min(number, GREATEST))
+
+
+def ticks(some, limit):
+    """An angle, mostly of at most this size, and often near zero, near the limit or near an entry of the table."""
+    if some.random() < 0.04:
+        return some.choice([LEAST, LEAST + 1, GREATEST, some.randint(LEAST, GREATEST)])
+    size = some.choice([some.randint(0, limit), some.randint(0, limit), small(some), limit - abs(small(some)), limit + some.randint(-2, 2),
+                        STEP * some.randrange(limit // STEP) + some.randint(-1, 1)])
+    return fitting(some.choice([size, -size]))
+
+
+def point(some):
+    return ticks(some, QUARTER), ticks(some, HALF_TURN)
+
+
+def accepted_point(some):
+    while True:
+        found = point(some)
+        if not model.bad_point(*found):
+            return found
+
+
+def accepted_meridian(some):
+    return accepted_point(some)[1]
+
+
+def random_sine(some):
+    return some.choice(['long_sine', 'short_sine']), ticks(some, QUARTER)
+
+
+def random_place(some):
+    return (some.choice(['cylindrical', 'sinusoidal']), *point(some), ticks(some, HALF_TURN))
+
+
+def any_64(some, number):
+    """A number at an end of 64 bits, or with the same low 32 bits as another, or any."""
+    return some.choice([LEAST_64, LEAST_64 + 1, GREATEST_64, number + 2**32, number - 2**32, 10_000 * small(some),
+                        some.randint(LEAST_64, GREATEST_64)])
+
+
+def random_back(some):
+    """The way back from a point's place, or from one that is off by a little or by much."""
+    sheet = some.choice(['cylindrical', 'sinusoidal'])
+    latitude, longitude = accepted_point(some)
+    _, x, y = model.DOORS[sheet](latitude, longitude, accepted_meridian(some))
+    between = 1 if sheet == 'cylindrical' else model.short_cosine(latitude)  # from a point to its neighbour
+    x = some.choice([x, x, x, x + some.randint(-2, 2), x + between, x - between,
+                     some.choice([-HALF_TURN - 1, -HALF_TURN, HALF_TURN - 1, HALF_TURN]) * between, any_64(some, x)])
+    y = some.choice([y, y, y, y, y, y + some.randint(-2, 2), -y, any_64(some, y)])
+    return sheet + '_back', x, y, ticks(some, HALF_TURN)
+
+
+def random_leg(some):
+    """Two points: near each other, nearly opposite, on one latitude or one meridian, or anywhere."""
+    latitude, longitude = point(some)
+    opposite = longitude - HALF_TURN if longitude >= 0 else longitude + HALF_TURN
+    second = some.choice([(latitude + small(some), longitude + small(some)), (-latitude, opposite),
+                          (-latitude + small(some), opposite + small(some)), (latitude, ticks(some, HALF_TURN)),
+                          (ticks(some, QUARTER), longitude), point(some), point(some)])
+    return ('leg', latitude, longitude, *map(fitting, second))
+
+
+def edges(some, at):
+    """A lower and an upper edge, often at a number or one double beside it."""
+    if some.random() < 0.02:
+        return some.choice([(math.nan, INF), (-INF, math.nan)])
+    low = some.choice([at, below(at), above(at), -INF, -INF, -0.0, at - abs(small(some))])
+    high = some.choice([at, below(at), above(at), INF, INF, 0.0, at + abs(small(some))])
+    return (high, low) if low > high and some.random() < 0.9 else (low, high)
+
+
+def random_divisor(some):
+    return some.choice(BAD_DIVISORS) if some.random() < 0.03 else some.choice([*DIVISORS, *(some.randint(1, 1_000_000) for _ in range(3))])
+
+
+def random_third(some):
+    return 0 if some.random() < 0.5 else some.choice(THIRDS)
+
+
+def random_step(some):
+    """A step of the pen with a window of its own."""
+    at, meridian = point(some), ticks(some, HALF_TURN)
+    good = not (model.bad_meridian(meridian) or model.bad_point(*at))
+    x, y = map(float, model.position(*at, meridian) if good else (0, 0))
+    return step(some.choice(PENS), edges(some, x) + edges(some, y), random_divisor(some), meridian, at, random_third(some))
+
+
+def run_of_steps(some, count):
+    """So many steps without their pens: points about one window, and now and then a step of another kind, or one that is refused."""
+    (latitude, longitude), meridian = accepted_point(some), accepted_meridian(some)
+    x, y = map(float, model.position(latitude, longitude, meridian))
+    reach = 10**some.randrange(1, 9)
+    window = some.choice([(-INF, INF, -INF, INF), (x - reach, x + reach, y - reach, y + reach), (x, INF, -INF, y)])
+    divisor = some.choice(DIVISORS)
+    for _ in range(count):
+        near = (max(-QUARTER, min(latitude + some.randint(-reach, reach) // 8, QUARTER)),
+                max(-HALF_TURN, min(longitude + some.randint(-reach, reach) // 8, HALF_TURN - 1)))
+        call = step(DOWN, window, divisor, meridian, near, random_third(some)) if some.random() < 0.9 else random_step(some)
+        yield call[2:]
+
+
+def random_calls(some, count):
+    """So many calls of the doors that take numbers, which take turns."""
+    turns = itertools.cycle([random_sine, random_place, random_back, random_leg, random_step])
+    return [call(some) for call in itertools.islice(turns, count)]
+
+
+def random_readings(some, count):
+    """Readings of so many random texts: the accepted ones into too little room, as much as they need, and too much."""
+    for text in texts.random_texts(some, count):
+        try:
+            need = 3 * len(model.route_of(text)[0])
+            rooms = {*([need - 1, some.randrange(need)] if need else []), need, need + some.randint(1, 9)}
+        except model.Refused:
+            rooms = {some.choice([0, 1, 3 * min(text.count(b'p\t'), 1_001), 3_003])}
+        yield from (('read_route', room, text) for room in sorted(rooms))

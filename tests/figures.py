@@ -1,0 +1,245 @@
+"""What the documents say of the doors, written by hand: calls, each a door's name and its arguments, and their answers."""
+import itertools
+import math
+import struct
+
+import doors
+
+LEAST, GREATEST = -2**31, 2**31 - 1
+LEAST_64, GREATEST_64 = -2**63, 2**63 - 1
+INF = math.inf
+LARGEST = math.nextafter(INF, 0.0)
+NANS = [math.nan, -math.nan, *struct.unpack('>d', bytes.fromhex('7ff0000000000001'))]  # the last one signals
+UP, DOWN = 0, 1
+PENS = [UP, DOWN, 2, 2**32 - 1]
+
+SINES = {
+    # "entry 0 is 0, entry 1 is 3,490,658,433, entry 1500 is 5×10^12, entry 4500 is 10^13"
+    ('long_sine', 0): (0, 0), ('long_sine', 200_000): (0, 3_490_658_433), ('long_sine', 300_000_000): (0, 5 * 10**12),
+    ('long_sine', 900_000_000): (0, 10**13), ('short_sine', 300_000_000): (0, 5 * 10**8), ('short_sine', 900_000_000): (0, 10**9),
+    # "long sine of 1 tick is 17,453; short sine 1"; "A negative angle gives the negative of its opposite."
+    ('long_sine', 1): (0, 17_453), ('short_sine', 1): (0, 1), ('long_sine', -1): (0, -17_453), ('short_sine', -1): (0, -1),
+    ('long_sine', -300_000_000): (0, -5 * 10**12), ('long_sine', -900_000_000): (0, -10**13), ('short_sine', -900_000_000): (0, -10**9),
+    # the 3,282 ticks below 90 degrees share a short sine
+    ('short_sine', 899_999_999): (0, 999_999_999), ('short_sine', 900_000_000 - 3_282): (0, 999_999_999),
+    ('short_sine', 900_000_000 - 3_283): (0, 999_999_998),
+    **{(sine, angle): (6, 0) for sine in ('long_sine', 'short_sine') for angle in (LEAST, -900_000_001, 900_000_001, GREATEST)},
+}
+SHEETS = {
+    ('cylindrical', 300_000_000, 100_000_000, 0): (0, 100_000_000, 5 * 10**12),
+    ('sinusoidal', 600_000_000, 100_000_000, 0): (0, 5 * 10**16, 600_000_000),
+    # longitude less meridian does not fit 32 bits
+    ('cylindrical', 0, 1_799_999_999, -1_800_000_000): (0, -1, 0), ('sinusoidal', 0, 1_799_999_999, -1_800_000_000): (0, -10**9, 0),
+    ('cylindrical', 0, 0, -1_800_000_000): (0, -1_800_000_000, 0), ('sinusoidal', 0, 0, -1_800_000_000): (0, -18 * 10**17, 0),
+    ('cylindrical', 0, -1_800_000_000, 1_799_999_999): (0, 1, 0), ('cylindrical', 0, -1_800_000_000, 1): (0, 1_799_999_999, 0),
+    # the short cosine 0 to 5 ticks from a pole
+    **{('sinusoidal', 900_000_000 - k, 1, 0): (0, cosine, 900_000_000 - k) for k, cosine in enumerate([0, 1, 3, 5, 6, 8])},
+    **{('sinusoidal', k - 900_000_000, -1, 0): (0, -cosine, k - 900_000_000) for k, cosine in enumerate([0, 1, 3, 5, 6, 8])},
+    # "Longitude 180: 7; -180: accepted. Latitude 90: accepted; 90.0000001: 6."
+    ('cylindrical', 0, 1_800_000_000, 0): (7, 0, 0), ('cylindrical', 0, -1_800_000_000, 0): (0, -1_800_000_000, 0),
+    ('cylindrical', 900_000_000, 0, 0): (0, 0, 10**13), ('cylindrical', 900_000_001, 0, 0): (6, 0, 0),
+    ('sinusoidal', 0, 1_800_000_000, 0): (7, 0, 0), ('sinusoidal', 0, -1_800_000_000, 0): (0, -18 * 10**17, 0),
+    ('sinusoidal', 900_000_000, 0, 0): (0, 0, 900_000_000), ('sinusoidal', 900_000_001, 0, 0): (6, 0, 0),
+    ('cylindrical', 0, 0, 1_800_000_000): (14, 0, 0), ('sinusoidal', 0, 0, 1_800_000_000): (14, 0, 0),
+}
+BACK = {
+    ('cylindrical_back', 0, 17_453, 0): (0, 1, 0), ('cylindrical_back', 0, 17_454, 0): (11, 0, 0),
+    ('cylindrical_back', 0, -17_453, 0): (0, -1, 0), ('cylindrical_back', 0, -17_454, 0): (11, 0, 0),
+    ('cylindrical_back', 100_000_000, 5 * 10**12, 0): (0, 300_000_000, 100_000_000),
+    ('sinusoidal_back', 5 * 10**16, 600_000_000, 0): (0, 600_000_000, 100_000_000),
+    ('sinusoidal_back', 5 * 10**16 + 1, 600_000_000, 0): (11, 0, 0),
+    # "At a sinusoidal pole the place is x = 0, and the answer is the central meridian's own longitude."
+    ('sinusoidal_back', 0, 900_000_000, 50_000_000): (0, 900_000_000, 50_000_000),
+    ('sinusoidal_back', 0, -900_000_000, -1_800_000_000): (0, -900_000_000, -1_800_000_000),
+    ('sinusoidal_back', 1, 900_000_000, 50_000_000): (11, 0, 0), ('sinusoidal_back', -1, -900_000_000, 0): (11, 0, 0),
+    # the cylindrical sheet keeps the longitudes of a pole apart
+    ('cylindrical_back', 1, 10**13, 50_000_000): (0, 900_000_000, 50_000_001), ('cylindrical_back', 0, 10**13 + 1, 0): (11, 0, 0),
+    # an offset of 180 degrees is out of range, one of -180 is not
+    ('cylindrical_back', 1_800_000_000, 0, 0): (11, 0, 0), ('cylindrical_back', -1_800_000_000, 0, 0): (0, 0, -1_800_000_000),
+    ('sinusoidal_back', 18 * 10**17, 0, 0): (11, 0, 0), ('sinusoidal_back', -18 * 10**17, 0, 0): (0, 0, -1_800_000_000),
+    ('cylindrical_back', 1_800_000_000, 0, -1_800_000_000): (11, 0, 0), ('sinusoidal_back', 18 * 10**17, 0, -1): (11, 0, 0),
+    ('cylindrical_back', -1, 0, -1_800_000_000): (0, 0, 1_799_999_999),
+    ('sinusoidal_back', -10**9, 0, -1_800_000_000): (0, 0, 1_799_999_999),
+    # "The way back takes any two signed 64-bit numbers." The low 32 bits of 2^32 alone would be a place.
+    **{(back, x, y, meridian): (11, 0, 0) for back in ('cylindrical_back', 'sinusoidal_back')
+       for x in (LEAST_64, -2**32, 0, 2**32, GREATEST_64) for y in (LEAST_64, 900_000_000 - 2**32, GREATEST_64)
+       for meridian in (-1_800_000_000, 0, 1_799_999_999)},
+    **{(back, x, 0, 0): (11, 0, 0) for back in ('cylindrical_back', 'sinusoidal_back') for x in (LEAST_64, -2**32, 2**32, GREATEST_64)},
+    ('sinusoidal_back', 0, 2**32, 0): (11, 0, 0),
+}
+LEGS = {
+    (0, 0, 0, 0): 0, (0, 0, 1, 0): 0, (0, 0, 2, 0): 22, (0, 0, 3, 0): 22, (-1, 0, 1, 0): 22,
+    (0, 1_799_000_000, 0, -1_799_000_000): 22_238_985, (900_000_000, 0, -900_000_000, 0): 20_015_086_860,
+    # a pole is one point, whatever its longitude
+    (900_000_000, -1_800_000_000, 900_000_000, 0): 0, (900_000_000, 1, -900_000_000, -1_234_567_890): 20_015_086_860,
+    (0, 0, 0, 900_000_000): 10_007_543_430, (0, 0, 0, 1_799_990_000): 20_015_013_849, (0, 0, 0, -1_800_000_000): 20_015_086_860,
+    # d reaches 3,599,999,999, and is 1 the other way round
+    (0, 1_799_999_999, 0, -1_800_000_000): 0,
+    # m is floored first
+    (-388_974_850, 745_373_330, 268_723_365, -1_239_838_359): 17_836_465_737,
+}
+# "Both directions of a leg have one length."
+BOTH_WAYS = {('leg', *points): (0, length) for leg, length in LEGS.items() for points in (leg, leg[2:] + leg[:2])}
+
+# "point 60° N 10° E .. Move with the doubles 555974635/1000 and 6671695620/1000"
+HERE, X, Y = (600_000_000, 100_000_000), 555_974_635, 6_671_695_620
+EVERYWHERE = (-INF, INF, -INF, INF)
+OUTSIDE = (0, 0, 0.0, 0.0, UP)  # "Outside: the pen is up next."
+
+
+def step(pen=UP, window=EVERYWHERE, divisor=1000, meridian=0, point=HERE, third=0):
+    return ('pen_step', pen, *window, divisor, meridian, *point, third)
+
+
+def move(x=X, y=Y, divisor=1000):
+    return 0, 1, x / divisor, y / divisor, DOWN
+
+
+def line(x=X, y=Y, divisor=1000):
+    return 0, 2, x / divisor, y / divisor, DOWN
+
+
+def refused(number, pen):
+    return number, 0, 0.0, 0.0, pen
+
+
+def below(number):
+    return math.nextafter(number, -INF)
+
+
+def above(number):
+    return math.nextafter(number, INF)
+
+
+# pairs, as keys with 0.0 and -0.0 would be one key
+STEPS = [
+    (step(), move()), (step(DOWN), line()), (step(2), line()), (step(2**32 - 1), line()),
+    # "any other third number counts as 1"
+    *((step(pen, third=third), move()) for pen in PENS for third in (1, 2, -1, LEAST, GREATEST)),
+    # X drops twice: one division would give 5. There is no minus zero.
+    (step(point=(600_000_000, 1), divisor=1), move(0, Y, 1)), (step(point=(500_000_000, -1), divisor=1), move(0, 5_559_746_350, 1)),
+    # west is as east, and south as north
+    (step(point=(600_000_000, -100_000_000)), move(-X)), (step(point=(-600_000_000, 100_000_000)), move(y=-Y)),
+    (step(point=(0, 1), divisor=1), move(11, 0, 1)), (step(point=(0, -1), divisor=1), move(-11, 0, 1)),
+    (step(point=(1, 0), divisor=1), move(0, 11, 1)), (step(point=(-1, 0), divisor=1), move(0, -11, 1)),
+    (step(point=(900_000_000, -1_800_000_000), meridian=5), move(0, 10_007_543_430)),
+    (step(meridian=100_000_000, point=(600_000_000, 200_000_000)), move()), (step(meridian=-1_800_000_000), move(-17 * X)),
+    # "edges counted in": an edge at X or Y, and one double beside
+    (step(window=(float(X), INF, -INF, INF)), move()), (step(window=(above(X), INF, -INF, INF)), OUTSIDE),
+    (step(window=(-INF, float(X), -INF, INF)), move()), (step(window=(-INF, below(X), -INF, INF)), OUTSIDE),
+    (step(window=(-INF, INF, float(Y), INF)), move()), (step(window=(-INF, INF, above(Y), INF)), OUTSIDE),
+    (step(window=(-INF, INF, -INF, float(Y))), move()), (step(window=(-INF, INF, -INF, below(Y))), OUTSIDE),
+    (step(DOWN, (float(X), above(X), below(Y), float(Y))), line()), (step(DOWN, (above(X), INF, -INF, INF)), OUTSIDE),
+    (step(DOWN, (-LARGEST, LARGEST, -LARGEST, LARGEST)), line()), (step(DOWN, (LARGEST, INF, -INF, INF)), OUTSIDE),
+    *((step(window=(low, INF, -INF, high), point=(0, 0)), move(0, 0)) for low in (0.0, -0.0) for high in (0.0, -0.0)),
+    # "X and Y as floats before the division"
+    (step(window=(X / 1000, INF, -INF, INF)), move()), (step(window=(-INF, X / 1000, -INF, INF)), OUTSIDE),
+    # "12: an edge is NaN, left is not below right, or bottom is not below top"
+    *((step(DOWN, (*EVERYWHERE[:k], nan, *EVERYWHERE[k + 1:])), refused(12, DOWN)) for k in range(4) for nan in NANS),
+    *((step(DOWN, window), refused(12, DOWN))
+      for low, high in ((0.0, -0.0), (-0.0, 0.0), (0.0, 0.0), (INF, INF), (-INF, -INF), (INF, -INF), (1.0, -1.0), (float(X), float(X)))
+      for window in ((low, high, -INF, INF), (-INF, INF, low, high))),
+    # "13: divisor outside 1 to 1,000,000"
+    *((step(DOWN, divisor=divisor), refused(13, DOWN)) for divisor in (0, 1_000_001, 2**31 - 1, 2**31, 2**32 - 1)),
+    *((step(DOWN, divisor=divisor), line(divisor=divisor)) for divisor in (1, 3, 1_000_000)),
+    # "the pen step hands back the pen it got"
+    *((step(pen, **fault), refused(number, pen)) for pen in PENS for number, fault in (
+        (12, {'window': (INF, INF, -INF, INF)}), (13, {'divisor': 0}), (14, {'meridian': 1_800_000_000}), (6, {'point': (900_000_001, 0)}),
+        (7, {'point': (0, 1_800_000_000)}))),
+]
+
+
+def orders():
+    """Calls with several faults: of the refusals, in the document's order, the first is answered."""
+    for good, faults, answer in (
+            # "Sheets: 14, 6, 7."
+            (('cylindrical', 0, 0, 0), [(14, 3, 1_800_000_000), (6, 1, 900_000_001), (7, 2, 1_800_000_000)], lambda number: (number, 0, 0)),
+            (('sinusoidal', 0, 0, 0), [(14, 3, -1_800_000_001), (6, 1, -900_000_001), (7, 2, LEAST)], lambda number: (number, 0, 0)),
+            # "Back: 14, 11."
+            (('cylindrical_back', 0, 0, 0), [(14, 3, LEAST), (11, 1, 1_800_000_000), (11, 2, 1)], lambda number: (number, 0, 0)),
+            (('sinusoidal_back', 0, 0, 0), [(14, 3, GREATEST), (11, 1, 1), (11, 2, 900_000_001)], lambda number: (number, 0, 0)),
+            # "Length: 6 and 7 of the first point, then of the second."
+            (('leg', 0, 0, 0, 0), [(6, 1, GREATEST), (7, 2, GREATEST), (6, 3, LEAST), (7, 4, LEAST)], lambda number: (number, 0)),
+            # "Pen step: 12, 13, 14, 6, 7."
+            (step(DOWN), [(12, 2, INF), (12, 5, -INF), (13, 6, 0), (14, 7, 1_800_000_000), (6, 8, 900_000_001), (7, 9, 1_800_000_000)],
+             lambda number: refused(number, DOWN))):
+        for chosen in itertools.chain(*(itertools.combinations(faults, count) for count in range(1, len(faults) + 1))):
+            call = list(good)
+            for _, at, bad in chosen:
+                call[at] = bad
+            yield tuple(call), answer(chosen[0][0])
+
+
+def route(mark, *lines):
+    """A route's text: a space stands for a tab, and LF ends each line."""
+    return b''.join(words.replace(' ', '\t').encode() + b'\n' for words in (f'route {mark}', *lines))
+
+
+THOUSAND = 1000 * ['p 0 0']
+# the refusals of a text's second line, under each header
+SECOND_LINES = {
+    'point': {
+        # an empty line, kinds and fields
+        '': 3, 'z': 3, 'p': 3, 'p 0': 3, 'p 0 0 0': 3, 'P 0 0': 3, ' p 0 0': 3, 't': 3, 'g ': 3, 'p , x ': 3, 'g': 8,
+        # "the fields from the left, each 5, 4, then 6 or 7"
+        'p x, 0': 5, 'p ,5 0': 5, 'p 91,5 0': 5, 'p 1000 0': 4, 'p x 1,5': 4, 'p 91 1,5': 6, 'p 91 x': 6, 'p 91 180': 6, 'p 0 180,x': 5,
+        'p 0 1800': 4, 'p +1 0': 4, 'p - 0': 4, 'p  0': 4, 'p 0 0\r': 4, 'p 0 .5': 4, 'p 0 5.': 4, 'p 0.12345678 0': 4,
+        # "Longitude 180: 7", "90.0000001: 6", and numbers that pass 32 bits
+        'p 0 180': 7, 'p 90.0000001 0': 6, 'p -90.0000001 0': 6, 'p 0 -180.0000001': 7, 'p 429.4967297 0': 6, 'p 0 429.4967297': 7,
+        'p 999.9999999 0': 6, 'p 0 -999.9999999': 7, 'p 0 -429.4967296': 7,
+        # "`t` `2,500` is 2,500,000 mm under comma, 5 under point"; "`1.234,5` is 5 under either"
+        't 2,500': 5, 't 1.234,5': 5, 't -0': 4, 't 1.2345': 4, 't 1000': 4, 't ': 4,
+        # 60,000 bytes are read to the last
+        'p 0 ' + 59_982 * '0' + ',': 5, 'p 0 ' + 59_983 * '0': 4,
+    },
+    'comma': {'p 0 0.0': 5, 'p 0,0 .': 5, 'p -90,0000001 0': 6, 'p 0 -180,0000001': 7, 't 1.234,5': 5, 't 2.5': 5, 't 5,': 4, 't ,5': 4},
+}
+# each text, its refusal and the line
+REFUSED_TEXTS = [
+    *((route(mark, words), number, 2) for mark, lines in SECOND_LINES.items() for words, number in lines.items()),
+    (60_001 * b'0', 1, 0), (60_001 * b'\n', 1, 0), (route('point', *THOUSAND, 'p 0 0', 60_000 * 'x', 'g'), 1, 0),
+    (b'', 2, 1), (b'\n', 2, 1), (b'route\tpoint', 2, 1), (b'route\tpoint\r\n', 2, 1), (b'route\tdot\nz', 2, 1), (b' route\tcomma\n', 2, 1),
+    (b'route\tcommas\n', 2, 1), (b'route\tcomma\t\n', 2, 1), (60_000 * b'\n', 2, 1),
+    # what stands after the last LF is a line without LF: 3 before everything else
+    (route('point', 'p 0 0')[:-1], 3, 2), (route('point', 'g')[:-1], 3, 2), (route('point', 't ,')[:-1], 3, 2),
+    (route('point') + b'\r', 3, 2),
+    # "in a line 3 .., 8, 9, then the fields"
+    (route('point', 'p 0 0', 't 1 2'), 3, 3), (route('point', 'p 0 0', 't x'), 8, 3), (route('point', 'p 0 0', 't ,'), 8, 3),
+    (route('point', 't 1', 't 1'), 8, 3), (route('point', *THOUSAND, 'p 0'), 3, 1002), (route('comma', *THOUSAND, 't x'), 8, 1002),
+    (route('point', *THOUSAND, 'p x ,'), 9, 1002), (route('point', *THOUSAND, 'g', 'p 91 0'), 9, 1003),
+    # "judged by the line before it, which must be a `p` line; what follows it is judged as its own line"
+    (route('point', 'g', 'p 0 0'), 8, 2), (route('point', 't 1', 'g', 'p 0 0'), 8, 3),
+    (route('point', 't 1', 'g'), 8, 3), (route('point', 'p 0 0', 'g', 'g'), 8, 4), (route('point', 'p 0 0', 'g', 't 1'), 8, 4),
+    (route('point', 'p 0 0', 'g', 'z'), 3, 4), (route('point', 'p 0 0', 'g'), 8, 3), (route('point', *THOUSAND, 'g'), 8, 1002),
+    # "the first bad line from the top"
+    (route('point', 'p 0 180', 'z'), 7, 2), (route('point', 'p 0 180', 'g'), 7, 2), (route('point', 'p 0 0', 'p 91 0', 'p 0 180'), 6, 3),
+]
+# each text; the points, whether there is a target, the length and the target; and the numbers written
+ACCEPTED_TEXTS = [
+    (route('point'), (0, 0, 0, 0), []),
+    (route('comma', 't 2,500'), (0, 1, 0, 2_500_000), []), (route('comma', 't 0'), (0, 1, 0, 0), []),
+    (route('point', 't 999.999'), (0, 1, 0, 999_999_000), []), (route('point', 't 000.001'), (0, 1, 0, 1000), []),
+    (route('comma', 't 10,000', 'p 0 0', 'p 0 90'), (2, 1, 10_007_543_430, 10_000_000), [0, 0, 1, 0, 900_000_000, 0]),
+    (route('point', 't 1', 'p 90 -180', 'g', 'p -0.0000001 5'), (2, 1, 0, 1_000_000), [900_000_000, -1_800_000_000, 1, -1, 50_000_000, 1]),
+    (route('point', 'p -90 179.9999999', 'p -0 -000.0'), (2, 0, 10_007_543_430, 0), [-900_000_000, 1_799_999_999, 1, 0, 0, 0]),
+    (route('point', *THOUSAND), (1000, 0, 0, 0), [0, 0, 1, *999 * [0, 0, 0]]),
+    (route('comma', *500 * ['p 90 0', 'p -90 0']), (1000, 0, 999 * 20_015_086_860, 0),
+     [900_000_000, 0, 1, -900_000_000, 0, 0, *499 * [900_000_000, 0, 0, -900_000_000, 0, 0]]),
+]
+
+
+def readings():
+    """The texts, each into rooms of several sizes. Behind the fields stand 1, as nothing but the buffer changes, and the buffer."""
+    for text, number, at in REFUSED_TEXTS:
+        for room in (0, 5, 3003):
+            yield ('read_route', room, text), (number, at, 0, 0, 0, 0, 1, *doors.lent(room))
+    for text, fields, numbers in ACCEPTED_TEXTS:
+        need = len(numbers)
+        for room in (need, need + 4):
+            yield ('read_route', room, text), (0, 0, *fields, 1, *numbers, *doors.lent(room)[need:])
+        # "10: buffer shorter than 3n (line 0)"
+        for room in range(need)[::-1][:4]:
+            yield ('read_route', room, text), (10, 0, 0, 0, 0, 0, 1, *doors.lent(room))
+
+
+FIGURES = [*SINES.items(), *SHEETS.items(), *BACK.items(), *BOTH_WAYS.items(), *STEPS, *orders(), *readings()]

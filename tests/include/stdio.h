@@ -1,0 +1,2 @@
+/* What the example asks of the C library. */
+int printf(const char *, ...);
