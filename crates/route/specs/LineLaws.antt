@@ -3,12 +3,13 @@
 use mathlib.Core.Path.{_≡_, refl}
 use mathlib.Core.Bool.{Bool, true, false, not}
 use mathlib.Core.List.{List, [], _∷_}
-use Prim.Native.Nat.{ℕ, _+_, _≤_, _<_}
+use Prim.Native.Nat.{ℕ, _+_, _*_, _≤_, _<_}
 use native.Mathlib.Omega.{arith}
 use borrow.Author.Tests.{ltb-true}
 use lib.IntN.{ℤ}
 use lib.ListN.{length, take}
 use lib.Dec.{ltb}
+use Rattle.ticks.specs.Refusal.{LONGITUDE}
 use Rattle.globe.specs.Refusal.{POINTS}
 use Rattle.ticks.specs.Ticks.{isLatitude, isLongitude}
 use Rattle.route.specs.declared.Mark.{Mark}
@@ -19,11 +20,12 @@ use Rattle.route.specs.declared.lines.Line.the-variants as L
 use Rattle.route.specs.declared.lines.State.{State}
 use Rattle.route.specs.Refusal.{LINE, NUMBER}
 use Rattle.route.specs.Pieces.{TAB, split, indexOf, holds, isByte}
-use Rattle.route.specs.PieceLaws.{onward, split-cut, split-last, split-some}
+use Rattle.route.specs.PieceLaws.{by-test, onward, split-cut, split-last, split-some}
 use Rattle.route.specs.Number.{degrees, numberOf, namedByte, otherByte, kilometres, plainOf, hasMinus, pastMinus, valued}
-use Rattle.route.specs.Line.{within, latitudeOf, longitudeOf, gapOf, targetOf, pointOf, fieldsOf, lineOf, taken, isFirst, isPoint, tByte, pByte, gByte, afterOf}
+use Rattle.route.specs.NumberLaws.{number-untabbed}
+use Rattle.route.specs.Line.{within, latitudeOf, longitudeOf, gapOf, targetOf, pointOf, fieldsOf, lineOf, taken, isFirst, isPoint, tByte, pByte, gByte, afterOf, numbersOf}
 use Rattle.ticks.specs.Choice.{unless}
-use Rattle.globe.specs.Buffer.{mostPoints}
+use Rattle.globe.specs.Buffer.{numbers, mostPoints}
 use Rattle.route.specs.declared.numbers.Form.{Form}
 use Rattle.route.specs.declared.numbers.Amount.{Amount}
 use Rattle.route.specs.declared.numbers.Amount.the-variants as A
@@ -169,3 +171,39 @@ few-after (gap t u) h = h
 -- no line goes past the most points
 pub line-few : (mark : Mark) (st : State) (s : List ℕ) (l : Line) → l ≡ lineOf mark st s → st .points ≤ mostPoints → afterOf st l .points ≤ mostPoints
 line-few mark st s l e h = few-after (line-says mark st s l e) h
+
+-- three numbers a point
+pub line-counted : (st : State) (l : Line) → numbers * st .points + length (numbersOf st l) ≡ numbers * afterOf st l .points
+line-counted st (L.Target mm) = omega arith
+line-counted st (L.Point lat lon) = omega arith
+line-counted st L.Gap = omega arith
+line-counted st (L.Refused n) = omega arith
+
+-- ---- the last field of a point
+
+within-value : (test : ℤ → Bool) (n : ℕ) (x : Number) (v : ℤ) → within test n x ≡ N.Value v → x ≡ N.Value v
+within-value test n (N.Value w) v e = by-test (test w) (λ t. rw t at e) (λ t. let q : N.Refused n ≡ N.Value v = rw t at e in let z : _≡_ {A = ℕ} 0 1 = cc in absurd (omega arith))
+within-value test n (N.Refused m) v e = e
+
+longitude-untabbed : (mark : Mark) (s : List ℕ) (v : ℤ) → longitudeOf mark s ≡ N.Value v → length s ≤ indexOf TAB s
+unfolding longitudeOf
+longitude-untabbed mark s v e = number-untabbed degrees mark s v (within-value isLongitude LONGITUDE (numberOf degrees mark s) v e)
+
+-- it holds no tab, or the line is refused
+pub data LastSays (t : List ℕ) : Line → Type 0 where
+  refused : {n : ℕ} → LastSays t (L.Refused n)
+  read : {l : Line} → length t ≤ indexOf TAB t → LastSays t l
+
+module _ (mark : Mark) (points : ℕ) (k s t : List ℕ) where
+  pub last-says : LastSays t (pointOf mark points k s t)
+  unfolding pointOf
+  last-says =
+      let P = LastSays t in
+      unless-says P (isByte pByte k) refused (λ p.
+      unless-says P (ltb points mostPoints) refused (λ q.
+      taken-says P _ (latitude-says mark s) (λ n h. refused) (λ lat y.
+      go lat (longitudeOf mark t) refl)))
+    where
+      go : (lat : ℤ) (x : Number) → longitudeOf mark t ≡ x → LastSays t (taken x (λ lon. L.Point lat lon))
+      go lat (N.Value v) e = read (longitude-untabbed mark t v e)
+      go lat (N.Refused n) e = refused

@@ -3,7 +3,7 @@
 -- Assumes nothing.
 use mathlib.Core.Bool.{Bool, true, false, not, _&&_}
 use mathlib.Core.List.{List, [], _∷_}
-use Prim.Native.Nat.{ℕ, _+_, _-_, _*_, _^_}
+use Prim.Native.Nat.{ℕ, zero, suc, _+_, _-_, _*_, _^_}
 use lib.Dec.{leb}
 use lib.IntN.{ℤ, pos, negℤ}
 use lib.ListN.{length, drop}
@@ -63,8 +63,11 @@ valueFrom v (b ∷ s) = valueFrom (v * 10 + (b - 48)) s
 abbrev pub valueOf : List ℕ → ℕ
 valueOf s = valueFrom 0 s
 
-unfoldable pub digitsOf : ℕ → List ℕ → Amount
-digitsOf most s = unless (areDigits most s) A.Not (A.Value (valueOf s))
+-- the digits that stand first, at most so many
+abbrev pub leading : ℕ → List ℕ → List ℕ
+leading zero s = []
+leading (suc most) [] = []
+leading (suc most) (b ∷ s) = if isDigit b then b ∷ leading most s else []
 
 -- ---- without a minus: the pieces of the field at the mark
 
@@ -106,3 +109,7 @@ unfoldable pub numberOf : Form → Mark → List ℕ → Number
 numberOf f mark s =
     unless (not (holds (otherByte mark) s)) (N.Refused MARK)
     (valued (hasMinus f s) (plainOf f (split (namedByte mark) (pastMinus f s))))
+
+-- of a field that is not a number: the other mark before whatever else breaks the rule
+abbrev pub faultOf : Mark → List ℕ → ℕ
+faultOf mark s = if holds (otherByte mark) s then MARK else NUMBER

@@ -3,11 +3,11 @@
 use mathlib.Core.Path.{_≡_, refl, sym, ap, subst, _∙_}
 use mathlib.Core.Bool.{Bool, true, false, _&&_}
 use mathlib.Core.List.{List, [], _∷_}
-use Prim.Native.Nat.{ℕ, suc, _+_, _-_, _≤_, _<_}
-use native.Mathlib.Nat.{add-zero, le-of-eq}
+use Prim.Native.Nat.{ℕ, zero, suc, _+_, _-_, _≤_, _<_}
+use native.Mathlib.Nat.{zero-add, add-zero, le-of-eq}
 use native.Mathlib.Numerals.{add-one}
 use native.Mathlib.Omega.{arith}
-use borrow.Author.Tests.{eq-eqb, ne-eqb}
+use borrow.Author.Tests.{eq-eqb, eqb-true, ne-eqb}
 use lib.Dec.{T, eqb}
 use lib.ListN.{length, take, drop, getD, length-drop, drop-of-length-le}
 use lib.Seq.{drop-cons, take-all}
@@ -38,22 +38,60 @@ onward-less s i h = rw (length-onward s (i + 1)) (omega arith)
 
 -- ---- the place of the first b
 
-module _ (b : ℕ) (s : List ℕ) (i : ℕ) where
-  pub index-end : length s ≤ i → i + indexOf b (drop i s) ≡ indexOf b s → i ≡ indexOf b s
-  index-end h e =
-      let q : i + indexOf b (drop i s) ≡ i = rw (drop-of-length-le s h) (add-zero i) in
-      sym q ∙ e
+-- so many bytes are looked at together
+abbrev pub stride : ℕ
+stride = 8
 
-  module _ (h : i < length s) (e : i + indexOf b (drop i s) ≡ indexOf b s) where
+-- no b stands before i
+pub record NoneBefore (b : ℕ) (s : List ℕ) (i : ℕ) : Type 0 where
+  pub inside : i ≤ length s
+  pub onwards : i + indexOf b (drop i s) ≡ indexOf b s
+
+pub none-yet : (b : ℕ) (s : List ℕ) → NoneBefore b s 0
+none-yet b s = record { inside = omega arith; onwards = zero-add _ }
+
+module _ (b : ℕ) (s : List ℕ) (i : ℕ) (n : NoneBefore b s i) where
+  pub index-end : length s ≤ i → i ≡ indexOf b s
+  index-end h =
+      let q : i + indexOf b (drop i s) ≡ i = rw (drop-of-length-le s h) (add-zero i) in
+      sym q ∙ n .onwards
+
+  module _ (h : i < length s) where
     pub index-hit : getD s i 0 ≡ b → i ≡ indexOf b s
     index-hit t =
         let q : i + indexOf b (drop i s) ≡ i = rw (drop-cons s i 0 h) (simp (eq-eqb _ _ t) (add-zero i)) in
-        sym q ∙ e
+        sym q ∙ n .onwards
 
-    pub index-miss : (getD s i 0 ≡ b → ⊥) → (i + 1) + indexOf b (drop (i + 1) s) ≡ indexOf b s
+    pub index-miss : (getD s i 0 ≡ b → ⊥) → NoneBefore b s (i + 1)
     index-miss t =
         let q : indexOf b (drop i s) ≡ suc (indexOf b (drop (suc i) s)) = rw (drop-cons s i 0 h) (simp (ne-eqb _ _ t)) in
-        rw add-one (omega arith)
+        record { inside = omega arith; onwards = rw add-one (omega (arith, n .onwards)) }
+
+pub index-within : (b : ℕ) (s : List ℕ) → indexOf b s ≤ length s
+index-within b [] = omega arith
+index-within b (x ∷ s) =
+    by-test (eqb x b)
+    (λ t. rw t (omega arith))
+    (λ t. rw t (omega (arith, index-within b s)))
+
+-- b stands there
+pub index-at : (b : ℕ) (s : List ℕ) → indexOf b s < length s → getD s (indexOf b s) 0 ≡ b
+index-at b [] h = absurd (omega arith)
+index-at b (x ∷ s) h =
+    by-test (eqb x b)
+    (λ t. rw t (eqb-true x b t))
+    (λ t.
+    let k : suc (indexOf b s) < suc (length s) = rw t at h in
+    rw t (index-at b s (omega arith)))
+
+-- and nowhere before
+pub index-least : (b : ℕ) (s : List ℕ) (i : ℕ) → i < length s → getD s i 0 ≡ b → indexOf b s ≤ i
+index-least b [] i h e = absurd (omega arith)
+index-least b (x ∷ s) zero h e = rw (eq-eqb x b e) (omega arith)
+index-least b (x ∷ s) (suc i) h e =
+    by-test (eqb x b)
+    (λ t. rw t (omega arith))
+    (λ t. rw t (omega (arith, index-least b s i (omega arith) e)))
 
 -- ---- the pieces
 

@@ -1,26 +1,36 @@
 -- Laws of the walk over the lines: what is left of the text answers what the whole text answers.
 -- Assumes nothing.
-use mathlib.Core.Path.{_≡_, refl, _∙_}
+use mathlib.Core.Path.{_≡_, refl, sym, ap, _∙_}
 use mathlib.Core.List.{List, [], _∷_, _++_}
 use Prim.Native.Nat.{ℕ, suc, _+_, _-_, _≤_, _<_}
 use native.Mathlib.Nat.{zero-add, add-zero, add-suc, suc-add}
+use native.Mathlib.Numerals.{add-one}
 use native.Mathlib.Omega.{arith}
 use borrow.Author.Tests.{le-leb, lt-leb}
-use lib.IntN.{ℤ}
-use lib.ListN.{set, length, take}
-use lib.Seq.{sets, sets-eq}
+use lib.IntN.{ℤ, pos}
+use lib.ListN.{set, length, take, drop, getD}
+use lib.Seq.{sets, sets-eq, drop-cons, take-suc, append-snoc, set-at, length-take-le}
 use Rattle.ticks.specs.Choice.{if_then_else_}
 use Rattle.route.specs.declared.Mark.{Mark}
 use Rattle.route.specs.declared.Header.the-variants as H
 use Rattle.route.specs.declared.Reading.the-variants as R
 use Rattle.route.specs.declared.lines.Line.{Line}
+use Rattle.route.specs.declared.lines.Line.the-variants as L
 use Rattle.route.specs.declared.lines.State.{State}
+use Rattle.route.specs.declared.reader.Judged.{Judged}
 use Rattle.route.specs.declared.reader.Judged.the-variants as J
 use Rattle.route.specs.Refusal.{TEXT, HEADER, LINE, ORDER}
 use Rattle.route.specs.Pieces.{LF, split, indexOf}
 use Rattle.route.specs.PieceLaws.{onward, split-cut, split-last, split-some}
 use Rattle.route.specs.Line.{isGap, lineOf, fresh, afterOf, numbersOf}
 use Rattle.route.specs.Route.{mostBytes, endOf, onLine, judgeFrom, pointsFrom, headerOf, judgeAfter, judgeLines, judgedOf, pointsOf, bodyOf, readingOf, written}
+
+-- what the lines leave in a buffer that they are read into: of an accepted text, its points
+pub record HeldBy (judged : Judged) (points before after : List ℤ) : Type 0 where
+  pub held : (st : State) → judged ≡ J.Accepted st → after ≡ written points before
+
+pub held-refused : {n line : ℕ} {points before after : List ℤ} → HeldBy (J.Refused n line) points before after
+held-refused = record { held = λ st e. let z : _≡_ {A = ℕ} 0 1 = cc in absurd (omega arith) }
 
 -- ---- the end
 
@@ -58,6 +68,9 @@ module _ (mark : Mark) (rest : List ℕ) (st : State) (e : ℕ) (p : e ≡ index
     pub judge-step : (line : ℕ)
         → judgeFrom mark line (split LF rest) st ≡ onLine line l (judgeFrom mark (line + 1) (split LF (onward rest (e + 1))) (afterOf st l))
     judge-step line = let t = onward rest (e + 1) in rw (split-cut LF e rest p h, r) (judge-cons mark line (take e rest) (split LF t) st (split-some LF t))
+
+    pub judge-refused : (line n : ℕ) → l ≡ L.Refused n → judgeFrom mark line (split LF rest) st ≡ J.Refused n line
+    judge-refused line n q = judge-step line ∙ ap (λ (x : Line). onLine line x (judgeFrom mark (line + 1) (split LF (onward rest (e + 1))) (afterOf st x))) q
 
     pub points-step : pointsFrom mark (split LF rest) st ≡ numbersOf st l ++ pointsFrom mark (split LF (onward rest (e + 1))) (afterOf st l)
     points-step = let t = onward rest (e + 1) in rw (split-cut LF e rest p h, r) (points-cons mark (take e rest) (split LF t) st (split-some LF t))
@@ -111,3 +124,11 @@ three-sets b i lat lon third =
 
 pub sets-written : (vs b : List ℤ) → length vs ≤ length b → sets b 0 vs ≡ written vs b
 sets-written vs b h = sets-eq vs b 0 (omega arith) ∙ rw zero-add
+
+-- one number more is copied
+pub copy-step : (own b : List ℤ) (i : ℕ) → i < length own → i < length b
+    → set (take i own ++ drop i b) i (getD own i (pos 0)) ≡ take (i + 1) own ++ drop (i + 1) b
+copy-step own b i h k =
+    let rest = drop (suc i) b in
+    rw (add-one, drop-cons b i (pos 0) k, set-at (take i own) (getD b i (pos 0)) rest (getD own i (pos 0)) i (length-take-le i own (omega arith)), take-suc own i (pos 0) h)
+    (sym (append-snoc (take i own) (getD own i (pos 0)) rest))

@@ -1,6 +1,8 @@
 // A route's text: read exactly, or refused with a number and a line.
 ghost use mathlib.Core.Path.{_≡_};
+ghost use Prim.Native.Nat.{_*_, _≤_};
 ghost use lib.ListN.{length};
+ghost use Rattle.globe.specs.Buffer.{numbers, mostPoints};
 ghost use Rattle.route.specs.Route.{headerOf, readingOf, bufferOf};
 
 mod lines;
@@ -55,9 +57,8 @@ fn read_header(line: &[u8]) -> Header
     Header::Unknown
 }
 
-// The route that a text says. Of an accepted one, the buffer has three numbers a point: latitude, longitude, and 1 for the first point and
-// after `g`, else 0. Nothing else in the buffer changes, and nothing at all where the text is refused.
-pub fn read(text: &[u8], buffer: &mut [i32]) -> Reading
+fn read_text(text: &[u8], own: &mut [i32], buffer: &mut [i32]) -> Reading
+    requires { ⌜ numbers * mostPoints ≤ length (now own) ⌝ }
     ensures answer { λ r. ⌜ r ≡ readingOf (now (text .entry)) (length (now (buffer .entry))) ⌝ }
     ensures left { λ _. ⌜ now (buffer .exit) ≡ bufferOf (now (text .entry)) (now (buffer .entry)) ⌝ }
 {
@@ -71,5 +72,16 @@ pub fn read(text: &[u8], buffer: &mut [i32]) -> Reading
     let Header::Names(mark) = read_header(&text[..e]) else {
         return Reading::Refused(HEADER, 1);
     };
-    reader::read_body(&text[e + 1..], mark, buffer)
+    reader::read_body(&text[e + 1..], mark, own, buffer)
+}
+
+// The route that a text says. Of an accepted one, the buffer has three numbers a point: latitude, longitude, and 1 for the first point and
+// after `g`, else 0. Nothing else in the buffer changes, and nothing at all where the text is refused.
+pub fn read(text: &[u8], buffer: &mut [i32]) -> Reading
+    ensures answer { λ r. ⌜ r ≡ readingOf (now (text .entry)) (length (now (buffer .entry))) ⌝ }
+    ensures left { λ _. ⌜ now (buffer .exit) ≡ bufferOf (now (text .entry)) (now (buffer .entry)) ⌝ }
+{
+    // the numbers of the most points, made before anything is judged: docs/DECISIONS.md, "The table is made first"
+    let mut own = [0i32; 3_000];
+    read_text(text, &mut own, buffer)
 }

@@ -183,10 +183,14 @@ pub(crate) fn read_line(s: &[u8], mark: Mark, st: State) -> Line
         return target(kind, fields, mark, before);
     }
     let last = &fields[j + 1..];
-    if has(last, TAB) {
-        return Line::Refused(LINE);
+    let line = point(kind, &fields[..j], last, mark, st.points);
+    // a longitude holds no tab, so another is looked for only in a line that is refused
+    if let Line::Refused(_) = line {
+        if has(last, TAB) {
+            return Line::Refused(LINE);
+        }
     }
-    point(kind, &fields[..j], last, mark, st.points)
+    line
 }
 
 // Before line 2.

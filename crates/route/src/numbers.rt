@@ -1,10 +1,10 @@
 // A number in a text: read exactly, or refused.
 ghost use mathlib.Core.Path.{_≡_};
 ghost use Prim.Native.Nat.{_+_, _*_, _^_, _≤_, _<_};
+ghost use lib.ListN.{length};
 ghost use Rattle.route.specs.Pieces.{split};
-ghost use Rattle.route.specs.Number.{degrees, kilometres, namedByte, otherByte, isDigit, digitsOf, plainOf, signed, numberOf, mostDigits};
+ghost use Rattle.route.specs.Number.{degrees, kilometres, namedByte, otherByte, isDigit, valueFrom, leading, plainOf, signed, faultOf, numberOf, mostDigits};
 use crate::Mark;
-use crate::pieces::find;
 use crate::pieces::has;
 use crate::pieces::starts;
 use crate::refusal::MARK;
@@ -26,6 +26,12 @@ pub(crate) enum Number {
 pub(crate) enum Amount {
     Value(u64),
     Not,
+}
+
+// How many digits were read, and what they make.
+pub(crate) struct Digits {
+    pub count: usize,
+    pub value: u64,
 }
 
 // Latitude and longitude, the seventh decimal a tick.
@@ -74,28 +80,29 @@ fn is_digit(b: u8) -> bool
     (b'0' <= b) & (b <= b'9')
 }
 
-// One to `most` digits, and nothing else.
-fn digits(s: &[u8], most: usize) -> Amount
-    requires { ⌜ most ≤ mostDigits ⌝ }
-    ensures { λ r. ⌜ r ≡ digitsOf most (now (s .entry)) ⌝ }
+// The digits that stand first, at most `most`, read on from those that make `n`.
+fn leading(s: &[u8], most: usize, n: u64) -> Digits
+    requires { ⌜ (n + 1) * 10 ^ most ≤ 10 ^ mostDigits ⌝ }
+    ensures many { λ r. ⌜ r .count ≡ length (leading most (now (s .entry))) ⌝ }
+    ensures read { λ r. ⌜ r .value ≡ valueFrom n (leading most (now (s .entry))) ⌝ }
 {
-    if s.len() < 1 {
-        return Amount::Not;
-    }
-    if most < s.len() {
-        return Amount::Not;
-    }
-    let mut value: u64 = 0;
+    let mut value = n;
     let mut i = 0;
-    while i < s.len() {
+    while (i < most) & (i < s.len()) {
         let b = s[i];
         if !is_digit(b) {
-            return Amount::Not;
+            return Digits {
+                count: i,
+                value: value,
+            };
         }
         value = value * 10 + ((b - b'0') as u64);
         i += 1;
     }
-    Amount::Value(value)
+    Digits {
+        count: i,
+        value: value,
+    }
 }
 
 fn scaled(n: u64, tens: usize) -> u64
@@ -117,19 +124,24 @@ fn plain(s: &[u8], mark: Mark, form: Form) -> Amount
     ensures { λ r. ⌜ r ≡ plainOf form (split (namedByte mark) (now (s .entry))) ⌝ }
 {
     let places = form.places;
-    let m = find(s, named_byte(mark));
-    let Amount::Value(w) = digits(&s[..m], form.wholes) else {
+    let whole = leading(s, form.wholes, 0);
+    let m = whole.count;
+    if m == 0 {
         return Amount::Not;
-    };
-    let whole = scaled(w, places);
+    }
     if m == s.len() {
-        return Amount::Value(whole);
+        return Amount::Value(scaled(whole.value, places));
+    }
+    if s[m] != named_byte(mark) {
+        return Amount::Not;
     }
     let decimals = &s[m + 1..];
-    let Amount::Value(d) = digits(decimals, places) else {
+    let both = leading(decimals, places, whole.value);
+    let d = both.count;
+    if (d == 0) | (d != decimals.len()) {
         return Amount::Not;
-    };
-    Amount::Value(whole + scaled(d, places - decimals.len()))
+    }
+    Amount::Value(scaled(both.value, places - d))
 }
 
 fn with_sign(minus: bool, n: u64) -> i64
@@ -140,18 +152,25 @@ fn with_sign(minus: bool, n: u64) -> i64
     if minus { 0 - z } else { z }
 }
 
-// The other mark first, then whatever else breaks the rule.
+// What is refused of a field that is not a number.
+fn fault(s: &[u8], mark: Mark) -> u32
+    ensures { λ r. ⌜ r ≡ faultOf mark (now (s .entry)) ⌝ }
+{
+    if has(s, other_byte(mark)) {
+        return MARK;
+    }
+    NUMBER
+}
+
+// A number holds no other mark, so that is looked for only in a field that is none.
 pub(crate) fn read_number(s: &[u8], mark: Mark, form: Form) -> Number
     requires { ⌜ form .wholes + form .places ≤ mostDigits ⌝ }
     ensures { λ r. ⌜ r ≡ numberOf form mark (now (s .entry)) ⌝ }
 {
-    if has(s, other_byte(mark)) {
-        return Number::Refused(MARK);
-    }
     let minus = form.minus & starts(s, b'-');
     let from: usize = if minus { 1 } else { 0 };
     let Amount::Value(n) = plain(&s[from..], mark, form) else {
-        return Number::Refused(NUMBER);
+        return Number::Refused(fault(s, mark));
     };
     Number::Value(with_sign(minus, n))
 }

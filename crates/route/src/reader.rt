@@ -1,12 +1,15 @@
-// The lines after line 1: all of them are judged, then the buffer is filled, then it is measured.
+// The lines after line 1: all of them are read, then the lent buffer is filled, then it is measured.
 ghost use mathlib.Core.Path.{_≡_};
-ghost use Prim.Native.Nat.{_+_, _≤_};
-ghost use lib.ListN.{length};
+ghost use mathlib.Core.List.{_++_};
+ghost use Prim.Native.Nat.{_+_, _*_, _≤_};
+ghost use lib.ListN.{length, take, drop};
 ghost use lib.Seq.{sets};
+ghost use Rattle.globe.specs.Buffer.{numbers, mostPoints};
 ghost use Rattle.globe.specs.Paper.{lengthPaper};
 ghost use Rattle.route.specs.Pieces.{LF, split};
 ghost use Rattle.route.specs.Line.{fresh, numbersOf};
-ghost use Rattle.route.specs.Route.{mostBytes, endOf, judgeFrom, pointsFrom, bodyOf, written, leftBy};
+ghost use Rattle.route.specs.Route.{mostBytes, endOf, judgeFrom, pointsFrom, bodyOf, leftBy};
+ghost use Rattle.route.specs.WalkLaws.{HeldBy};
 use crate::Mark;
 use crate::Reading;
 use crate::lines::Line;
@@ -46,28 +49,6 @@ fn ending(rest: &[u8], line: u32, st: State) -> Judged
     Judged::Accepted(st)
 }
 
-fn judge(text: &[u8], mark: Mark) -> Judged
-    requires { ⌜ length (now text) ≤ mostBytes ⌝ }
-    ensures { λ r. ⌜ r ≡ judgeFrom mark 2 (split LF (now (text .entry))) fresh ⌝ }
-{
-    let mut rest = text;
-    let mut line: u32 = 2;
-    let mut st = fresh();
-    loop {
-        let e = find(rest, LF);
-        if e == rest.len() {
-            return ending(rest, line, st);
-        }
-        let l = read_line(&rest[..e], mark, st);
-        if let Line::Refused(n) = l {
-            return Judged::Refused(n, line);
-        }
-        st = after(st, l);
-        line += 1;
-        rest = &rest[e + 1..];
-    }
-}
-
 // The numbers of a line into the buffer; answers the next place.
 fn put(buffer: &mut [i32], at: usize, st: State, line: Line) -> usize
     requires { ⌜ at + length (numbersOf st line) ≤ length (now buffer) ⌝ }
@@ -84,24 +65,43 @@ fn put(buffer: &mut [i32], at: usize, st: State, line: Line) -> usize
     at
 }
 
-// The numbers of all points of a text that was accepted.
-fn fill(text: &[u8], mark: Mark, buffer: &mut [i32])
+// Each line is read once: it is judged, and its numbers go into a buffer of our own.
+fn read_lines(text: &[u8], mark: Mark, own: &mut [i32]) -> Judged
     requires { ⌜ length (now text) ≤ mostBytes ⌝ }
-    requires { ⌜ length (pointsFrom mark (split LF (now text)) fresh) ≤ length (now buffer) ⌝ }
-    ensures { λ _. ⌜ now (buffer .exit) ≡ written (pointsFrom mark (split LF (now (text .entry))) fresh) (now (buffer .entry)) ⌝ }
+    requires { ⌜ numbers * mostPoints ≤ length (now own) ⌝ }
+    ensures judged { λ r. ⌜ r ≡ judgeFrom mark 2 (split LF (now (text .entry))) fresh ⌝ }
+    ensures held { λ r. ⌜ HeldBy r (pointsFrom mark (split LF (now (text .entry))) fresh) (now (own .entry)) (now (own .exit)) ⌝ }
 {
     let mut rest = text;
+    let mut line: u32 = 2;
     let mut at: usize = 0;
     let mut st = fresh();
     loop {
         let e = find(rest, LF);
         if e == rest.len() {
-            return;
+            return ending(rest, line, st);
         }
         let l = read_line(&rest[..e], mark, st);
-        at = put(buffer, at, st, l);
+        if let Line::Refused(n) = l {
+            return Judged::Refused(n, line);
+        }
+        at = put(own, at, st, l);
         st = after(st, l);
+        line += 1;
         rest = &rest[e + 1..];
+    }
+}
+
+// The first `n` numbers of our own buffer into the lent one.
+fn copy(own: &[i32], n: usize, buffer: &mut [i32])
+    requires { ⌜ n ≤ length (now own) ⌝ }
+    requires { ⌜ n ≤ length (now buffer) ⌝ }
+    ensures { λ _. ⌜ now (buffer .exit) ≡ take n (now (own .entry)) ++ drop n (now (buffer .entry)) ⌝ }
+{
+    let mut i = 0;
+    while i < n {
+        buffer[i] = own[i];
+        i += 1;
     }
 }
 
@@ -115,12 +115,14 @@ fn millimetres(length: Length) -> u64
     }
 }
 
-pub(crate) fn read_body(text: &[u8], mark: Mark, buffer: &mut [i32]) -> Reading
+// Nothing is written to the lent buffer before all lines are accepted and there is room for their points.
+pub(crate) fn read_body(text: &[u8], mark: Mark, own: &mut [i32], buffer: &mut [i32]) -> Reading
     requires { ⌜ length (now text) ≤ mostBytes ⌝ }
+    requires { ⌜ numbers * mostPoints ≤ length (now own) ⌝ }
     ensures answer { λ r. ⌜ r ≡ bodyOf mark (now (text .entry)) (length (now (buffer .entry))) ⌝ }
     ensures left { λ _. ⌜ now (buffer .exit) ≡ leftBy (bodyOf mark (now (text .entry)) (length (now (buffer .entry)))) (pointsFrom mark (split LF (now (text .entry))) fresh) (now (buffer .entry)) ⌝ }
 {
-    let judged = judge(text, mark);
+    let judged = read_lines(text, mark, own);
     match judged {
         Judged::Refused(refusal, line) => Reading::Refused(refusal, line),
         Judged::Accepted(st) => {
@@ -130,7 +132,7 @@ pub(crate) fn read_body(text: &[u8], mark: Mark, buffer: &mut [i32]) -> Reading
             if buffer.len() < numbers {
                 return Reading::Refused(ROOM, 0);
             }
-            fill(text, mark, buffer);
+            copy(own, numbers, buffer);
             let length = millimetres(measure(&buffer[..numbers]));
             Reading::Route {
                 points: points,

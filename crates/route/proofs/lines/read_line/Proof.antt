@@ -1,14 +1,20 @@
--- `read_line` meets its contract: the tabs that are found part the line into the definition's fields.
+-- `read_line` meets its contract: the tabs that are found part the line into the definition's fields, and the last field of a point holds none.
 -- Assumes nothing.
-use mathlib.Core.Path.{refl, sym, _∙_}
-use Prim.Native.Nat.{_+_, _<_}
+use mathlib.Core.Path.{_≡_, refl, sym, subst, _∙_}
+use mathlib.Core.List.{List}
+use Prim.Native.Nat.{ℕ, _+_, _≤_, _<_}
 use native.Mathlib.Omega.{arith}
 use borrow.Author.Needs.{needs}
 use borrow.Author.Tests.{ltb-true, ltb-false}
 use lib.ListN.{length}
 use lib.Seq.{length-take-le}
+use Rattle.route.specs.declared.lines.Line.the-variants as L
+use Rattle.route.specs.Refusal.{LINE}
+use Rattle.route.specs.Pieces.{TAB, indexOf}
 use Rattle.route.specs.PieceLaws.{onward}
-use Rattle.route.specs.LineLaws.{one-field, two-fields, three-fields, more-fields}
+use Rattle.route.specs.Line.{lineOf}
+use Rattle.route.specs.LineLaws.{LastSays, last-says, one-field, two-fields, three-fields, more-fields}
+use Rattle.route.proofs.Tags.{last-free}
 use Rattle.route.proofs.lines.read_line.Statement.{statement}
 use Rattle.route.proofs.lines.read_line.Tie as tie
 
@@ -73,44 +79,57 @@ part-last-start c = search needs
 part-last-end : tie.Need-part-last-end
 part-last-end c = search needs
 
-has-requires : tie.Need-has-requires
-has-requires c κs = search needs
-
-returns-3 : tie.Need-returns-3
-returns-3 c =
-    let h = c .before in
-    let g = h .before .before .before in
-    let f = g .before .before .before .before in
-    let s = f .before .before .args .s .now in
-    let i = f .find .result in
-    let t = onward s (i + 1) in
-    let j = g .find2 .result in
-    sym
-    (more-fields _ _ s i (f .find .ensures .0) (first (g .before .before .before)) t refl
-    j (g .find2 .ensures .0) (second (h .before .before)) (onward t (j + 1)) refl
-    (ltb-true _ _ (sym (h .has .ensures) ∙ c .if3 .taken)))
-
 slice-aggregate-point : tie.Need-slice-aggregate-point
-slice-aggregate-point c = sym (length-take-le _ _ (c .before .before .before .before .before .find2 .ensures .1))
+slice-aggregate-point c = sym (length-take-le _ _ (c .before .before .before .find2 .ensures .1))
 
 point-requires : tie.Need-point-requires
 point-requires c κs = search needs
 
+enum-told : tie.Need-enum-told
+enum-told c = search needs
+
+has-requires : tie.Need-has-requires
+has-requires c κs = search needs
+
+-- three fields, or more
+module _ (c : tie.After-point) where
+  abbrev g : tie.After-find2
+  g = c .before .before .before .before
+
+  abbrev f : tie.After-find
+  f = g .before .before .before .before
+
+  abbrev s : List ℕ
+  s = f .before .before .args .s .now
+
+  abbrev t : List ℕ
+  t = onward s (f .find .result + 1)
+
+  abbrev last : List ℕ
+  last = onward t (g .find2 .result + 1)
+
+  more : indexOf TAB last < length last → lineOf (f .before .before .args .mark) (f .before .before .args .st) s ≡ L.Refused LINE
+  more =
+      more-fields _ _ s (f .find .result) (f .find .ensures .0) (first (g .before .before .before)) t refl
+      (g .find2 .result) (g .find2 .ensures .0) (second (c .before .before .before)) last refl
+
+  three : length last ≤ indexOf TAB last → c .point .result ≡ lineOf (f .before .before .args .mark) (f .before .before .args .st) s
+  three h =
+      c .point .ensures ∙
+      sym
+      (three-fields _ _ s (f .find .result) (f .find .ensures .0) (first (g .before .before .before)) t refl
+      (g .find2 .result) (g .find2 .ensures .0) (second (c .before .before .before)) last refl h)
+
+returns-3 : tie.Need-returns-3
+returns-3 c = sym (more (c .before .before .before .before) (ltb-true _ _ (sym (c .before .has .ensures) ∙ c .if3 .taken)))
+
 returns-4 : tie.Need-returns-4
-returns-4 c =
-    let d = c .before .before in
-    let h = d .before in
-    let g = h .before .before .before in
-    let f = g .before .before .before .before in
-    let s = f .before .before .args .s .now in
-    let i = f .find .result in
-    let t = onward s (i + 1) in
-    let j = g .find2 .result in
-    c .point .ensures ∙
-    sym
-    (three-fields _ _ s i (f .find .ensures .0) (first (g .before .before .before)) t refl
-    j (g .find2 .ensures .0) (second (h .before .before)) (onward t (j + 1)) refl
-    (ltb-false _ _ (sym (h .has .ensures) ∙ d .if3 .left)))
+returns-4 c = three (c .before .before .before .before) (ltb-false _ _ (sym (c .before .has .ensures) ∙ c .if3 .left))
+
+returns-5 : tie.Need-returns-5
+returns-5 c =
+    let p = c .before in
+    three p (last-free (subst (LastSays (last p)) (sym (p .point .ensures)) (last-says _ _ _ _ (last p))) (c .match .keys2))
 
 pub read-line-spec : {M : Type 1} → statement M
 read-line-spec =
@@ -131,8 +150,10 @@ read-line-spec =
     sub-last
     part-last-start
     part-last-end
-    has-requires
-    returns-3
     slice-aggregate-point
     point-requires
-    returns-4)
+    enum-told
+    has-requires
+    returns-3
+    returns-4
+    returns-5)

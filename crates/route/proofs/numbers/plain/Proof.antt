@@ -1,178 +1,181 @@
--- `plain` meets its contract: the first mark parts the digits before it from those after it, which hold no mark. Each part and their sum are
--- below what the form can make, so they fit.
+-- `plain` meets its contract: the digits that stand first end at the end, or at the mark, or there is no number; so do those after the mark.
+-- What they make together is below what the form can make, so it fits.
 -- Assumes nothing.
-use mathlib.Core.Path.{_≡_, sym, _∙_}
-use mathlib.Core.List.{List, [], _∷_}
-use Prim.Native.Nat.{ℕ, _+_, _-_, _*_, _^_, _<_}
+use mathlib.Core.Path.{_≡_, sym, ap, _∙_}
+use mathlib.Core.Bool.{false, not, _||_}
+use mathlib.Core.List.{List}
+use Prim.Native.Nat.{ℕ, _+_, _-_, _*_, _^_, _≤_, _<_}
 use native.Mathlib.Omega.{arith}
 use borrow.Author.Needs.{needs}
-use lib.ListN.{length, take}
-use lib.Seq.{length-take-le, take-all}
+use borrow.Author.Tests.{eqb-true, eqb-false, not-false}
+use lib.Dec.{eqb}
+use lib.ListN.{length, getD}
 use Rattle.route.specs.declared.numbers.Form.{Form}
 use Rattle.route.specs.declared.numbers.Amount.the-variants as A
-use Rattle.route.specs.Pieces.{split, indexOf}
-use Rattle.route.specs.Number.{namedByte, mostDigits, digitsOf, plainOf}
-use Rattle.route.specs.PieceLaws.{onward, split-cut, split-last}
-use Rattle.route.specs.NumberLaws.{no-digit, digits-few, digits-one, plain-small, plain-whole, plain-both, plain-no-wholes, plain-no-places}
+use Rattle.route.specs.Pieces.{split}
+use Rattle.route.specs.Number.{namedByte, mostDigits, isDigit, valueFrom, leading, plainOf}
+use Rattle.route.specs.PieceLaws.{onward}
+use Rattle.route.specs.NumberLaws.{no-digit, or-false, leading-most, leading-within, wholes-room, places-room, plain-small, plain-none, plain-other, plain-whole, plain-bad, plain-both}
 use Rattle.route.proofs.numbers.plain.Statement.{statement}
 use Rattle.route.proofs.numbers.plain.Tie as tie
 
--- the text at its first mark
-module _ (c : tie.After-find) where
+-- the digits that stand first
+module _ (c : tie.After-leading) where
   abbrev s : List ℕ
-  s = c .before .before .before .args .s .now
+  s = c .before .before .args .s .now
 
   abbrev mark : ℕ
-  mark = namedByte (c .before .before .before .args .mark)
+  mark = namedByte (c .before .before .args .mark)
 
   abbrev form : Form
-  form = c .before .before .before .args .form
+  form = c .before .before .args .form
 
-  abbrev left : List ℕ
-  left = take (c .find .result) s
+  abbrev wholes : List ℕ
+  wholes = leading (form .wholes) s
 
-  abbrev right : List ℕ
-  right = onward s (c .find .result + 1)
+  few : form .wholes + form .places ≤ mostDigits
+  few = c .before .before .pre
 
-  place : c .find .result ≡ indexOf mark s
-  place = rw (← c .before .named-byte .ensures) (c .find .ensures .0)
+  small : (n : ℕ) → plainOf form (split mark s) ≡ A.Value n → n < 10 ^ mostDigits
+  small n e = plain-small form (split mark s) n few e
 
-  small : (ps : List (List ℕ)) (n : ℕ) → plainOf form ps ≡ A.Value n → n < 10 ^ mostDigits
-  small ps n e = plain-small form ps n (c .before .before .before .pre) e
+  no-mark : isDigit mark ≡ false
+  no-mark = no-digit (c .before .before .args .mark)
+
+leading-requires : tie.Need-leading-requires
+leading-requires c κs = wholes-room (c .before .args .form) (c .before .pre)
+
+returns : tie.Need-returns
+returns c = let f = c .before in sym (plain-none (form f) (mark f) (no-mark f) (s f) (sym (f .leading .ensures .0) ∙ c .if1 .taken))
+
+-- there are some
+some : (c : tie.Else1) → 1 ≤ length (wholes (c .before))
+some c = omega (arith, c .before .leading .ensures .0)
+
+-- they are all
+whole : (c : tie.Then2) → let f = c .before .before in plainOf (form f) (split (mark f) (s f)) ≡ A.Value (f .leading .result .value * 10 ^ form f .places)
+whole c =
+    let f = c .before .before in
+    plain-whole (form f) (mark f) (no-mark f) (s f) (some (c .before)) (sym (f .leading .ensures .0) ∙ c .if2 .taken) ∙
+    ap (λ (v : ℕ). A.Value (v * 10 ^ form f .places)) (sym (f .leading .ensures .1))
+
+scaled-requires : tie.Need-scaled-requires
+scaled-requires c κs = omega (arith, small (c .before .before) _ (whole c))
+
+returns-2 : tie.Need-returns-2
+returns-2 c = rw (c .scaled .ensures) (sym (whole (c .before)))
+
+-- a byte stands after them
+more : (c : tie.Else2) → let f = c .before .before in f .leading .result .count < length (s f)
+more c = let f = c .before .before in omega (arith, leading-within (form f .wholes) (s f), f .leading .ensures .0)
+
+shared-slice-read-if3 : tie.Need-shared-slice-read-if3
+shared-slice-read-if3 c = more (c .before)
 
 named-byte-requires : tie.Need-named-byte-requires
 named-byte-requires c κs = search needs
 
-find-requires : tie.Need-find-requires
-find-requires c κs = search needs
-
-slice-aggregate-digits : tie.Need-slice-aggregate-digits
-slice-aggregate-digits c = sym (length-take-le _ _ (c .before .find .ensures .1))
-
-digits-requires : tie.Need-digits-requires
-digits-requires c κs = search needs
-
-enum-known-w : tie.Need-enum-known-w
-enum-known-w c = search needs
-
-enum-told : tie.Need-enum-told
-enum-told c = search needs
-
-returns : tie.Need-returns
-returns c =
-    let at = c .before .before .before .before in
-    let none = sym (c .before .before .digits .ensures) ∙ c .enum-told .given .1 in
-    sym (plain-no-wholes (form at) (mark at) (s at) _ (place at) none)
-
--- the digits before the mark, and what they make alone
-module _ (c : tie.After-known-told) where
-  abbrev start : tie.After-find
-  start = c .before .before .before .before .before
-
-  wholes : digitsOf (form start .wholes) (left start) ≡ A.Value (c .before .w .given .0 .0)
-  wholes = sym (c .before .before .before .digits .ensures) ∙ c .before .w .given .1
-
-  whole : plainOf (form start) (left start ∷ []) ≡ A.Value (c .before .w .given .0 .0 * 10 ^ form start .places)
-  whole = plain-whole (form start) (left start) _ wholes
-
-scaled-requires : tie.Need-scaled-requires
-scaled-requires c κs = omega (arith, small (start c) _ _ (whole c))
-
-returns-2 : tie.Need-returns-2
-returns-2 c =
-    let at = start (c .before .before) in
-    rw (c .before .scaled .ensures, split-last (mark at) (s at) (omega (arith, place at)))
-    (sym (rw (take-all (at .find .result) (s at) (omega arith)) at (whole (c .before .before))))
+returns-3 : tie.Need-returns-3
+returns-3 c =
+    let e = c .before .before .before in
+    let f = e .before .before in
+    let count = f .leading .ensures .0 in
+    sym
+    (plain-other (form f) (mark f) (no-mark f) (s f)
+    (omega (arith, more e, count))
+    (λ q. c .if3 .taken (ap (λ (i : ℕ). getD (s f) i 0) count ∙ q ∙ sym (c .before .named-byte .ensures))))
 
 add-decimals : tie.Need-add-decimals
-add-decimals c = search needs
+add-decimals c = omega (arith, more (c .before .before .before))
 
 sub-decimals : tie.Need-sub-decimals
-sub-decimals c = search needs
+sub-decimals c = omega (arith, more (c .before .before .before))
 
 part-decimals-start : tie.Need-part-decimals-start
-part-decimals-start c = search needs
+part-decimals-start c = omega (arith, more (c .before .before .before))
 
 part-decimals-end : tie.Need-part-decimals-end
 part-decimals-end c = search needs
 
-digits-requires-2 : tie.Need-digits-requires-2
-digits-requires-2 c κs = search needs
+leading-requires-2 : tie.Need-leading-requires-2
+leading-requires-2 c κs =
+    let f = c .before .before .before .before .before .before in
+    omega (arith, ap (λ (v : ℕ). (v + 1) * 10 ^ form f .places) (f .leading .ensures .1), places-room (form f) (few f) (s f))
 
-enum-known-d : tie.Need-enum-known-d
-enum-known-d c = search needs
+-- the mark stands after them, and then what is read on
+module _ (c : tie.After-leading2) where
+  abbrev e : tie.Else2
+  e = c .before .before .before .before .before
 
-enum-told-2 : tie.Need-enum-told-2
-enum-told-2 c = search needs
+  abbrev f : tie.After-leading
+  f = e .before .before
 
--- the text has a mark
-cut : (c : tie.After-decimals) → let at = start (c .before .before .before) in split (mark at) (s at) ≡ left at ∷ split (mark at) (right at)
-cut c =
-    let at = start (c .before .before .before) in
-    let m = at .find .result in
-    split-cut (mark at) m (s at) (place at) (omega (arith, at .find .ensures .1))
+  abbrev after : List ℕ
+  after = onward (s f) (f .leading .result .count + 1)
 
-returns-3 : tie.Need-returns-3
-returns-3 c =
-    let here = c .before .before .before in
-    let at = start (here .before .before .before) in
-    let none = sym (c .before .before .digits2 .ensures) ∙ c .enum-told2 .given .1 in
-    rw (cut here) (sym (plain-no-places (form at) (mark at) (right at) (left at) none))
+  abbrev places : List ℕ
+  places = leading (form f .places) after
 
--- the digits after the mark, and what both make
-module _ (c : tie.After-known-told2) where
-  abbrev here : tie.After-decimals
-  here = c .before .before .before .before
+  mark-is : getD (s f) (length (wholes f)) 0 ≡ mark f
+  mark-is =
+      let i = c .before .before in
+      ap (λ (i : ℕ). getD (s f) i 0) (sym (f .leading .ensures .0)) ∙ i .if3 .left ∙ i .before .named-byte .ensures
 
-  abbrev at : tie.After-find
-  at = start (here .before .before .before)
+  more-is : length (wholes f) < length (s f)
+  more-is = omega (arith, more e, f .leading .ensures .0)
 
-  places : digitsOf (form at .places) (right at) ≡ A.Value (c .before .d .given .0 .0)
-  places = sym (c .before .before .before .digits2 .ensures) ∙ c .before .d .given .1
-
-  both : let w = here .before .before .before .before .w .given .0 .0 in let d = c .before .d .given .0 .0 in
-      plainOf (form at) (left at ∷ (right at ∷ [])) ≡ A.Value (w * 10 ^ form at .places + d * 10 ^ (form at .places - length (right at)))
-  both = plain-both (form at) (left at) _ (wholes (here .before .before .before)) (right at) _ places
-
-sub-scaled : tie.Need-sub-scaled
-sub-scaled c = digits-few _ _ _ (places c)
-
-scaled-requires-2 : tie.Need-scaled-requires-2
-scaled-requires-2 c κs = omega (arith, small (at c) _ _ (both c))
-
-add-t21 : tie.Need-add-t21
-add-t21 c =
-    let k = c .before in
-    rw (here k .before .before .scaled .ensures, c .scaled2 .ensures) (omega (arith, small (at k) _ _ (both k)))
+  after-is : after ≡ onward (s f) (length (wholes f) + 1)
+  after-is = ap (λ (i : ℕ). onward (s f) (i + 1)) (f .leading .ensures .0)
 
 returns-4 : tie.Need-returns-4
 returns-4 c =
     let k = c .before in
-    let one = digits-one (mark (at k)) _ (right (at k)) _ (no-digit (at k .before .before .before .args .mark)) (places k) in
-    rw (here k .before .before .scaled .ensures, c .scaled2 .ensures, cut (here k), one) (sym (both k))
+    let q = k .leading2 .ensures .0 in
+    sym
+    (plain-bad (form (f k)) (mark (f k)) (no-mark (f k)) (s (f k)) (some (e k .before)) (more-is k) (mark-is k) (after k) (after-is k)
+    (ap (λ (d : ℕ). eqb d 0 || not (eqb d (length (after k)))) (sym q) ∙ c .if4 .taken))
+
+-- they are digits up to the end
+module _ (c : tie.Else4) where
+  abbrev k : tie.After-leading2
+  k = c .before
+
+  both : plainOf (form (f k)) (split (mark (f k)) (s (f k))) ≡ A.Value (k .leading2 .result .value * 10 ^ (form (f k) .places - k .leading2 .result .count))
+  both =
+      let q = k .leading2 .ensures .0 in
+      let t = or-false (eqb (k .leading2 .result .count) 0) (not (eqb (k .leading2 .result .count) (length (after k)))) (c .if4 .left) in
+      let one : 1 ≤ length (places k) = let z = eqb-false (k .leading2 .result .count) 0 (t .0) in omega arith in
+      let all : length (places k) ≡ length (after k) = sym q ∙ eqb-true (k .leading2 .result .count) (length (after k)) (not-false _ (t .1)) in
+      let value = k .leading2 .ensures .1 ∙ ap (λ (v : ℕ). valueFrom v (places k)) (f k .leading .ensures .1) in
+      plain-both (form (f k)) (mark (f k)) (no-mark (f k)) (s (f k)) (some (e k .before)) (more-is k) (mark-is k) (after k) (after-is k) one all ∙
+      ap A.Value (cc (q, value))
+
+sub-scaled : tie.Need-sub-scaled
+sub-scaled c = omega (arith, leading-most (form (f (c .before)) .places) (after (c .before)), c .before .leading2 .ensures .0)
+
+scaled-requires-2 : tie.Need-scaled-requires-2
+scaled-requires-2 c κs = omega (arith, small (f (c .before)) _ (both c))
+
+returns-5 : tie.Need-returns-5
+returns-5 c = rw (c .scaled2 .ensures) (sym (both (c .before)))
 
 pub plain-spec : {M : Type 1} → statement M
 plain-spec =
     tie.close
     (tie.spec
-    named-byte-requires
-    find-requires
-    slice-aggregate-digits
-    digits-requires
-    enum-known-w
-    enum-told
+    leading-requires
     returns
     scaled-requires
     returns-2
+    shared-slice-read-if3
+    named-byte-requires
+    returns-3
     add-decimals
     sub-decimals
     part-decimals-start
     part-decimals-end
-    digits-requires-2
-    enum-known-d
-    enum-told-2
-    returns-3
+    leading-requires-2
+    returns-4
     sub-scaled
     scaled-requires-2
-    add-t21
-    returns-4)
+    returns-5)

@@ -1,5 +1,5 @@
--- `read_number` meets its contract: where the other mark is not found, the number is what `plain` reads after the minus, if
--- there is one. It has so few digits that it fits with either sign.
+-- `read_number` meets its contract: the number is what `plain` reads after the minus, if there is one, and holds no other mark. It has so few
+-- digits that it fits with either sign.
 -- Assumes nothing.
 use mathlib.Core.Path.{_≡_, sym, ap, _∙_}
 use mathlib.Core.Bool.{Bool, _&&_}
@@ -16,9 +16,10 @@ use Rattle.route.specs.declared.numbers.Form.{Form}
 use Rattle.route.specs.declared.numbers.Amount.{Amount}
 use Rattle.route.specs.declared.numbers.Amount.the-variants as A
 use Rattle.route.specs.declared.numbers.Number.the-variants as N
-use Rattle.route.specs.Pieces.{holds}
-use Rattle.route.specs.Number.{otherByte, hasMinus, signed, valued, numberOf}
-use Rattle.route.specs.NumberLaws.{plain-small, past-within, number-mark, number-else}
+use Rattle.route.specs.Pieces.{split}
+use Rattle.route.specs.PieceLaws.{onward}
+use Rattle.route.specs.Number.{namedByte, plainOf, hasMinus, signed}
+use Rattle.route.specs.NumberLaws.{plain-small, past-within, number-value, number-fault}
 use Rattle.route.proofs.numbers.read_number.Statement.{statement}
 use Rattle.route.proofs.numbers.read_number.Tie as tie
 
@@ -32,33 +33,21 @@ module _ (c : tie.Start) where
   abbrev form : Form
   form = c .args .form
 
-other-byte-requires : tie.Need-other-byte-requires
-other-byte-requires c κs = search needs
-
-has-requires : tie.Need-has-requires
-has-requires c κs = search needs
-
-other : (c : tie.After-has) → let a = c .before .before .before in c .has .result ≡ holds (otherByte (mark a)) (s a)
-other c = rw (← c .before .other-byte .ensures) (c .has .ensures)
-
-returns : tie.Need-returns
-returns c = sym (number-mark _ _ (mark (c .before .before .before .before)) (sym (other (c .before)) ∙ c .if1 .taken))
-
 starts-requires : tie.Need-starts-requires
 starts-requires c κs = search needs
 
 -- past the minus
-module _ (c : tie.Joined2) where
+module _ (c : tie.Joined1) where
   abbrev first : tie.Start
-  first = c .before .before .before .before .before .before .before
+  first = c .before .before .before .before
 
   minus : (form first .minus && c .before .before .starts .result) ≡ hasMinus (form first) (s first)
   minus = ap (λ (t : Bool). form first .minus && t) (c .before .before .starts .ensures)
 
-  from : c .if2 .from ≡ (if hasMinus (form first) (s first) then 1 else 0)
-  from = rw (← minus) (⊎-elim (λ t. t .1 ∙ rw (t .0 .taken)) (λ t. t .1 ∙ rw (t .0 .left)) (c .if2 .came))
+  from : c .if1 .from ≡ (if hasMinus (form first) (s first) then 1 else 0)
+  from = rw (← minus) (⊎-elim (λ t. t .1 ∙ rw (t .0 .taken)) (λ t. t .1 ∙ rw (t .0 .left)) (c .if1 .came))
 
-  within : c .if2 .from ≤ length (s first)
+  within : c .if1 .from ≤ length (s first)
   within = past-within (form first) (s first) _ from
 
 sub-plain : tie.Need-sub-plain
@@ -79,41 +68,40 @@ enum-known-n c = search needs
 enum-told : tie.Need-enum-told
 enum-told c = search needs
 
--- without the other mark
 module _ (c : tie.After-plain) where
-  abbrev at : tie.Joined2
+  abbrev at : tie.Joined1
   at = c .before .before .before
 
   abbrev a : tie.Start
   a = first at
 
-  number : (n : Amount) → c .plain .result ≡ n → numberOf (form a) (mark a) (s a) ≡ valued (hasMinus (form a) (s a)) n
-  number n e =
-      let checked = at .before .before .before in
-      let none = sym (other (checked .before)) ∙ checked .if1 .left in
-      number-else (form a) (s a) _ (from at) (mark a) none ∙ ap (valued _) (sym (c .plain .ensures) ∙ e)
+  read : (n : Amount) → c .plain .result ≡ n → plainOf (form a) (split (namedByte (mark a)) (onward (s a) (at .if1 .from))) ≡ n
+  read n e = sym (c .plain .ensures) ∙ e
 
-returns-2 : tie.Need-returns-2
-returns-2 c = sym (number (c .before .before) A.Not (c .enum-told .given .1))
+fault-requires : tie.Need-fault-requires
+fault-requires c κs = search needs
+
+returns : tie.Need-returns
+returns c =
+    let k = c .before .before .before in
+    ap N.Refused (c .fault .ensures) ∙ sym (number-fault (form (a k)) (s (a k)) _ (from (at k)) (mark (a k)) (read k A.Not (c .before .enum-told .given .1)))
 
 with-sign-requires : tie.Need-with-sign-requires
 with-sign-requires c κs =
     let k = c .before .before .before in
-    plain-small _ _ _ (a k .pre) (sym (k .plain .ensures) ∙ c .before .n .given .1)
+    plain-small _ _ _ (a k .pre) (read k _ (c .before .n .given .1))
 
-returns-3 : tie.Need-returns-3
-returns-3 c =
+returns-2 : tie.Need-returns-2
+returns-2 c =
     let k = c .before .before .before .before in
-    let signs = ap (λ (t : Bool). signed t (c .before .before .n .given .0 .0)) (minus (at k)) in
-    ap N.Value (kept w64 _ (c .with-sign .ok) ∙ c .with-sign .ensures ∙ signs) ∙ sym (number k _ (c .before .before .n .given .1))
+    let n = c .before .before .n .given in
+    let signs = ap (λ (t : Bool). signed t (n .0 .0)) (minus (at k)) in
+    ap N.Value (kept w64 _ (c .with-sign .ok) ∙ c .with-sign .ensures ∙ signs) ∙ sym (number-value (form (a k)) (s (a k)) _ (from (at k)) (mark (a k)) (n .0 .0) (read k _ (n .1)))
 
 pub read-number-spec : {M : Type 1} → statement M
 read-number-spec =
     tie.close
     (tie.spec
-    other-byte-requires
-    has-requires
-    returns
     starts-requires
     sub-plain
     part-plain-start
@@ -121,6 +109,7 @@ read-number-spec =
     plain-requires
     enum-known-n
     enum-told
-    returns-2
+    fault-requires
+    returns
     with-sign-requires
-    returns-3)
+    returns-2)

@@ -1,4 +1,4 @@
--- `read` meets its contract: a text that is too long or has no header is refused, and the lines after line 1 are read by the mark that it names.
+-- `read_text` meets its contract: a text that is too long or has no header is refused, and the lines after line 1 are read by the mark that it names.
 -- Assumes nothing.
 use mathlib.Core.Path.{sym, _∙_}
 use Prim.Native.Nat.{_<_}
@@ -9,8 +9,8 @@ use lib.Seq.{length-take-le}
 use Rattle.route.specs.Route.{bufferOf}
 use Rattle.route.specs.WalkLaws.{too-long, no-line, unknown, named, points-after}
 use Rattle.route.specs.Promises.{refusal-leaves}
-use Rattle.route.proofs.read.Statement.{statement}
-use Rattle.route.proofs.read.Tie as tie
+use Rattle.route.proofs.read_text.Statement.{statement}
+use Rattle.route.proofs.read_text.Tie as tie
 
 inside : (c : tie.Else2) → c .before .find .result < length (c .before .before .before .before .args .text .now)
 inside c = omega (arith, c .before .find .ensures .1)
@@ -69,11 +69,14 @@ read-body-requires c κs = search needs
 same-length : tie.Need-same-length
 same-length c = search needs
 
+same-length-2 : tie.Need-same-length-2
+same-length-2 c = search needs
+
 returns-4 : tie.Need-returns-4
 unfolding bufferOf
 returns-4 c =
-    let b = c .before .read-body .ensures in
-    let m = c .before .before .before .before .before in
+    let b = c .before .before .read-body .ensures in
+    let m = c .before .before .before .before .before .before .before in
     let h = m .before .before in
     let f = h .before .before .before in
     let s = f .before .before .before in
@@ -83,8 +86,8 @@ returns-4 c =
     let p = points-after text (length (s .args .buffer .now)) (f .before .if1 .left) (f .find .result) (f .find .ensures .0) (inside (h .before .before)) _ q in
     (b .0 ∙ sym e, rw (e, p) (b .1))
 
-pub read-spec : {M : Type 1} → statement M
-read-spec =
+pub read-text-spec : {M : Type 1} → statement M
+read-text-spec =
     tie.close
     (tie.spec
     returns
@@ -101,4 +104,5 @@ read-spec =
     part-read-body-end
     read-body-requires
     same-length
+    same-length-2
     returns-4)
