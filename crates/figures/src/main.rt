@@ -327,6 +327,19 @@ fn routes() {
     reading(b"no points into no numbers", t, &[]);
 }
 
+fn marked(name: &[u8], text: &[u8]) {
+    reading(name, read(text, &mut []), &[]);
+}
+
+// Whether a comma or a point is the decimal mark is said by line 1, and nothing is guessed.
+fn marks() {
+    marked(b"2,500 under comma", b"route\tcomma\nt\t2,500\n");
+    marked(b"2,500 under point", b"route\tpoint\nt\t2,500\n");
+    marked(b"5, under comma", b"route\tcomma\nt\t5,\n");
+    marked(b"1.234,5 under comma", b"route\tcomma\nt\t1.234,5\n");
+    marked(b"1.234,5 under point", b"route\tpoint\nt\t1.234,5\n");
+}
+
 fn route_refusals() {
     let mut a = [9; 5];
     let r = read(b"route\tpoint\np\t0\t0\np\t0.0000002\t0\n", &mut a);
@@ -356,6 +369,7 @@ fn main() {
     buffer_refusals();
     long_buffers();
     routes();
+    marks();
     route_refusals();
     pens::all();
 }
