@@ -1,7 +1,7 @@
 /* Senruhobi's doors for C: sines, map sheets, lengths, route texts and the pen of the route desk.
  *
  * Each door answers for all arguments; nobody has to check first. In `refusal` 0 means accepted, and any other number says why not
- * (the README has the table). Beside a refusal every other field is 0, but for the pen, and no buffer is written to.
+ * (the README has the table). Beside a refusal every other field is 0, but for a text's line and the pen, and no buffer is written to.
  * Angles are in ticks, ten-millionths of a degree: latitude from -900000000 to 900000000, longitude and central meridian from
  * -1800000000 up to but not including 1800000000.
  */

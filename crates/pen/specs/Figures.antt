@@ -4,12 +4,12 @@ use mathlib.Core.Path.{_≡_, refl, ap, _∙_}
 use mathlib.Core.Bool.{true, false}
 use lib.Count.{trailingZeros}
 use lib.Ieee.{inf, binary64, lt, le, eq, round, size, span, climb, units, odd, div, ofInt, ofBits, ofFields}
-use lib.IntN.{pos}
+use lib.IntN.{pos, negℤ}
 use Rattle.globe.specs.Figures.{sinusoidal-60-10}
 use Rattle.pen.specs.declared.Window.{Window}
 use Rattle.pen.specs.declared.Answer.the-variants.{Drawn}
 use Rattle.pen.specs.declared.Stroke.the-variants.{Move}
-use Rattle.pen.specs.Position.{across}
+use Rattle.pen.specs.Position.{millimetres, across}
 use Rattle.pen.specs.Pen.{newPen, lowered, drawn, stepAt, stepOf}
 use Rattle.pen.specs.PenLaws.{step-placed}
 
@@ -28,3 +28,7 @@ new-pen =
 -- X drops twice: at 60° N an offset of 1 tick is X 0, where one division would give 5
 pub dropped-twice : across (pos 500_000_000) ≡ pos 0
 dropped-twice = refl
+
+-- and toward zero: 1 tick south is 11 millimetres, as 1 tick north is, where dropping downward would give 12
+pub dropped-south : millimetres (negℤ (pos 1)) ≡ negℤ (pos 11)
+dropped-south = refl

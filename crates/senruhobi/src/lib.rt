@@ -1,5 +1,5 @@
 // The doors for C and for what can call C: numbers and slices in, a struct by value out. In `refusal` 0 means accepted; beside a refusal every
-// field is 0, but for the pen of a step, which is the one that came in. include/senruhobi.h declares the same for C.
+// field is 0, but for the line of a text and the pen of a step, which is the one that came in. include/senruhobi.h declares the same for C.
 ghost use mathlib.Core.Path.{_≡_};
 ghost use lib.ListN.{length};
 ghost use Rattle.globe.specs.Paper.{sinePaper, placePaper, pointPaper, lengthPaper};

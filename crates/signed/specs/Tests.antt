@@ -7,7 +7,7 @@ use native.Mathlib.Omega.{arith}
 use lib.Dec.{T, eqb}
 use lib.IntN.{ℤ, pos, negsuc}
 use lib.Signed.{ltZ, leZ}
-use borrow.Author.Tests.{ltb-true, ltb-false, leb-true, leb-false, eqb-true, lt-ltb, le-ltb, le-leb, lt-leb, eq-eqb}
+use borrow.Author.Tests.{ltb-true, ltb-false, leb-true, leb-false, eqb-true, lt-ltb, le-leb, eq-eqb}
 use Rattle.signed.specs.Sides.{above, below}
 
 pub ltZ-true : (a b : ℤ) → ltZ a b ≡ true → above a + below b < above b + below a
@@ -28,12 +28,6 @@ lt-ltZ (pos a) (negsuc b) h = absurd (omega arith)
 lt-ltZ (negsuc a) (pos b) h = refl
 lt-ltZ (negsuc a) (negsuc b) h = lt-ltb b a (omega arith)
 
-pub le-ltZ : (a b : ℤ) → above b + below a ≤ above a + below b → ltZ a b ≡ false
-le-ltZ (pos a) (pos b) h = le-ltb a b (omega arith)
-le-ltZ (pos a) (negsuc b) h = refl
-le-ltZ (negsuc a) (pos b) h = absurd (omega arith)
-le-ltZ (negsuc a) (negsuc b) h = le-ltb b a (omega arith)
-
 pub leZ-true : (a b : ℤ) → leZ a b ≡ true → above a + below b ≤ above b + below a
 leZ-true (pos a) (pos b) e = omega (arith, leb-true a b e)
 leZ-true (pos a) (negsuc b) e = absurd (subst T (sym e) tt)
@@ -51,12 +45,6 @@ le-leZ (pos a) (pos b) h = le-leb a b (omega arith)
 le-leZ (pos a) (negsuc b) h = absurd (omega arith)
 le-leZ (negsuc a) (pos b) h = refl
 le-leZ (negsuc a) (negsuc b) h = le-leb b a (omega arith)
-
-pub lt-leZ : (a b : ℤ) → above b + below a < above a + below b → leZ a b ≡ false
-lt-leZ (pos a) (pos b) h = lt-leb a b (omega arith)
-lt-leZ (pos a) (negsuc b) h = refl
-lt-leZ (negsuc a) (pos b) h = absurd (omega arith)
-lt-leZ (negsuc a) (negsuc b) h = lt-leb b a (omega arith)
 
 -- ---- equality
 
