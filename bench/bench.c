@@ -10,7 +10,7 @@ void *memcpy(void *restrict, const void *restrict, size_t);
 int printf(const char *restrict, ...);
 int sprintf(char *restrict, const char *restrict, ...);
 
-enum { SEED = 1395, CALLS = 1000, POINTS = 1000, FEW_POINTS = 10, REPETITIONS = 60 };
+enum { SEED = 1395, CALLS = 1000, POINTS = SENRUHOBI_MOST_POINTS, NUMBERS = SENRUHOBI_MOST_NUMBERS, FEW_POINTS = 10, REPETITIONS = 60 };
 enum { QUARTER = 900000000, HALF_TURN = 1800000000, DEGREE = 10000000 };
 enum { STRIDE = 5000 }; /* a step of a walk, in ticks: up to some 50 metres either way */
 enum { MONOTONIC = 1 }; /* clock_gettime's number for the clock that nobody sets */
@@ -42,8 +42,8 @@ static usual_input degrees[CALLS];
 typedef struct { char bytes[60001]; size_t length; } text;
 
 static text far_joined, far_parted, near_joined, near_parted, few_points, no_points;
-static int32_t senruhobi_buffer[3 * POINTS], twin_buffer[3 * POINTS];
-static double usual_buffer[3 * POINTS];
+static int32_t senruhobi_buffer[NUMBERS], twin_buffer[NUMBERS];
+static double usual_buffer[NUMBERS];
 
 /* A number from least to most, by splitmix64. */
 static int32_t between(int64_t least, int64_t most)
@@ -196,20 +196,20 @@ USUAL(pen_step, usual_step, STEP, a.refused + a.stroke + a.pen + a.x + a.y)
 #define READ_USUAL(route)                                                             \
     static uint64_t usual_##route##_round(void)                                       \
     {                                                                                 \
-        usual_reading a = usual_read_route(route.bytes, usual_buffer, 3 * POINTS);    \
+        usual_reading a = usual_read_route(route.bytes, usual_buffer, NUMBERS);       \
         return (uint64_t)(a.refused + a.points + a.has_target + a.length + a.target); \
     }
 
 /* Without room for the points a route is refused once all its lines are judged. */
 #define READ(route)                                   \
-    READ_EXACT(senruhobi, route, round, 3 * POINTS)   \
-    READ_EXACT(twin, route, round, 3 * POINTS)        \
+    READ_EXACT(senruhobi, route, round, NUMBERS)      \
+    READ_EXACT(twin, route, round, NUMBERS)           \
     READ_EXACT(senruhobi, route, judging, 0)          \
     READ_EXACT(twin, route, judging, 0)               \
     READ_USUAL(route)
 
-READ_EXACT(senruhobi, no_points, round, 3 * POINTS)
-READ_EXACT(twin, no_points, round, 3 * POINTS)
+READ_EXACT(senruhobi, no_points, round, NUMBERS)
+READ_EXACT(twin, no_points, round, NUMBERS)
 READ(few_points)
 READ(near_joined)
 READ(near_parted)

@@ -13,7 +13,7 @@ enum {
 
 enum { ROWS = 4500, STEP = 200000, QUARTER = 900000000, HALF_TURN = 1800000000, SHORTENING = 10000, SHORT_UNIT = 1000000000 };
 enum { DEGREE = 10000000, DEGREE_LENGTH = 111194927 }; /* in ticks, in millimetres */
-enum { MOST_BYTES = 60000, MOST_POINTS = 1000, NUMBERS = 3, MOST_DIVISOR = 1000000 };
+enum { MOST_BYTES = 60000, MOST_POINTS = SENRUHOBI_MOST_POINTS, NUMBERS = SENRUHOBI_NUMBERS, MOST_DIVISOR = 1000000 };
 
 #define TURN 3600000000
 
@@ -336,7 +336,7 @@ static uint64_t measure(const int32_t *points, uint32_t n)
     uint64_t length = 0;
     for (const int32_t *at = points + NUMBERS; at < points + NUMBERS * n; at += NUMBERS)
         if (!at[2])
-            length += leg_length(at[-3], at[-2], at[0], at[1]);
+            length += leg_length(at[-NUMBERS], at[1 - NUMBERS], at[0], at[1]);
     return length;
 }
 

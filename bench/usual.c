@@ -101,15 +101,15 @@ usual_reading usual_read_route(const char *text, double *buffer, size_t numbers)
         return refused;
     char *end;
     for (const char *line = text + sizeof header - 1; *line; line = end + 1) {
-        double *point = buffer + 3 * r.points;
-        if (*line == 'p' && numbers >= 3 * (size_t)(r.points + 1)) {
+        double *point = buffer + SENRUHOBI_NUMBERS * r.points;
+        if (*line == 'p' && numbers >= SENRUHOBI_NUMBERS * (size_t)(r.points + 1)) {
             point[0] = strtod(line + 2, &end);
             point[1] = strtod(end + 1, &end);
             point[2] = !joined;
             if (!is_point(point[0], point[1]))
                 return refused;
             if (joined)
-                r.length += leg_length(point[-3], point[-2], point[0], point[1]);
+                r.length += leg_length(point[-SENRUHOBI_NUMBERS], point[1 - SENRUHOBI_NUMBERS], point[0], point[1]);
             r.points++;
         } else if (*line == 't') {
             r.has_target = 1;

@@ -1,7 +1,7 @@
 /* The doors' jobs done the usual way: degrees, millimetres and pixels are doubles. */
 #ifndef USUAL_H
 #define USUAL_H
-#include <stddef.h>
+#include "../include/senruhobi.h" /* how a buffer is laid out */
 
 typedef struct { int refused; double value; } usual_number;
 typedef struct { int refused; double x, y; } usual_place;

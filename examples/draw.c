@@ -12,8 +12,8 @@ static const char text[] = "route\tcomma\n"
 
 int main(void)
 {
-    int32_t numbers[3 * 1000];
-    senruhobi_reading route = senruhobi_read_route((const uint8_t *)text, sizeof text - 1, numbers, 3 * 1000);
+    int32_t numbers[SENRUHOBI_MOST_NUMBERS];
+    senruhobi_reading route = senruhobi_read_route((const uint8_t *)text, sizeof text - 1, numbers, SENRUHOBI_MOST_NUMBERS);
     if (route.refusal) {
         printf("refused: %u at line %u\n", route.refusal, route.line);
         return 1;
@@ -25,7 +25,8 @@ int main(void)
     /* a window from the middle of the sheet to the north-east, in millimetres */
     const double left = 0, right = 1e9, bottom = 0, top = 1e10;
     uint32_t pen = 0;
-    for (const int32_t *p = numbers; p < numbers + 3 * route.points; p += 3) {
+    for (uint32_t i = 0; i < route.points; i++) {
+        const int32_t *p = numbers + SENRUHOBI_NUMBERS * i;
         senruhobi_step s = senruhobi_pen_step(pen, left, right, bottom, top, 1000000, 0, p[0], p[1], p[2]);
         if (s.refusal)
             printf("refused: %u\n", s.refusal);

@@ -15,6 +15,10 @@
 extern "C" {
 #endif
 
+/* How many numbers a point has in a buffer: latitude, longitude, and 1 where the pen was up before it, else 0. The most points of a route, and
+ * their numbers. */
+enum { SENRUHOBI_NUMBERS = 3, SENRUHOBI_MOST_POINTS = 1000, SENRUHOBI_MOST_NUMBERS = SENRUHOBI_NUMBERS * SENRUHOBI_MOST_POINTS };
+
 typedef struct { uint32_t refusal; int64_t value; } senruhobi_sine;
 typedef struct { uint32_t refusal; int64_t x, y; } senruhobi_place;
 typedef struct { uint32_t refusal; int32_t latitude, longitude; } senruhobi_point;
@@ -37,8 +41,8 @@ senruhobi_point senruhobi_sinusoidal_back(int64_t x, int64_t y, int32_t meridian
 /* The length of a leg along the great circle, the shorter way round. Refusals: 6 and 7 of the first point, then of the second. */
 senruhobi_length senruhobi_leg(int32_t latitude1, int32_t longitude1, int32_t latitude2, int32_t longitude2);
 
-/* Reads a route's text. Of an accepted one the buffer's first 3 * points numbers are latitude, longitude, and 1 for the first point and
- * after `g`, else 0; its other numbers stay as they were. Refusals: 1 to 10, with the line. Text and buffer must not overlap; with a
+/* Reads a route's text. Of an accepted one the buffer begins with the numbers of its points, the third 1 for the first point and after
+ * `g`, else 0; its other numbers stay as they were. Refusals: 1 to 10, with the line. Text and buffer must not overlap; with a
  * count of 0 a pointer is not looked at. */
 senruhobi_reading senruhobi_read_route(const uint8_t *text, size_t bytes, int32_t *buffer, size_t numbers);
 

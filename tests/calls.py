@@ -14,6 +14,7 @@ ENDS_64 = [LEAST_64, LEAST_64 + 1, -2**32, 2**31, 2**32, GREATEST_64]
 THIRDS = [0, 1, 2, -1, LEAST, GREATEST]
 DIVISORS = [1, 2, 3, 7, 1_000, 999_999, 1_000_000]
 BAD_DIVISORS = [0, 1_000_001, 2**31, 2**32 - 1]
+TOO_MUCH_ROOM = model.MOST_NUMBERS + model.NUMBERS
 
 
 # At the limits
@@ -66,11 +67,16 @@ def steps():
         yield from (step(DOWN, window, point=point) for window in itertools.product(across, across, up, up))
 
 
+def room_for(points):
+    """The numbers of so many points, or of one more than a route may have."""
+    return min(model.NUMBERS * points, TOO_MUCH_ROOM)
+
+
 def files(folder):
     """The stored routes, into no room, into as much as they need and into more."""
     for path in sorted(folder.glob('*.route')):
         text = path.read_bytes()
-        yield from (('read_route', room, text) for room in sorted({0, 3 * min(text.count(b'\np\t'), 1_001), 3_003}))
+        yield from (('read_route', room, text) for room in sorted({0, room_for(text.count(b'\np\t')), TOO_MUCH_ROOM}))
 
 
 # Random
@@ -193,8 +199,8 @@ def random_readings(some, count):
     """Readings of so many random texts: the accepted ones into too little room, as much as they need, and too much."""
     for text in texts.random_texts(some, count):
         try:
-            need = 3 * len(model.route_of(text)[0])
+            need = room_for(len(model.route_of(text)[0]))
             rooms = {*([need - 1, some.randrange(need)] if need else []), need, need + some.randint(1, 9)}
         except model.Refused:
-            rooms = {some.choice([0, 1, 3 * min(text.count(b'p\t'), 1_001), 3_003])}
+            rooms = {some.choice([0, 1, room_for(text.count(b'p\t')), TOO_MUCH_ROOM])}
         yield from (('read_route', room, text) for room in sorted(rooms))

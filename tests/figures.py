@@ -4,6 +4,7 @@ import math
 import struct
 
 import doors
+from model import MOST_NUMBERS, NUMBERS
 
 LEAST, GREATEST = -2**31, 2**31 - 1
 LEAST_64, GREATEST_64 = -2**63, 2**63 - 1
@@ -231,14 +232,14 @@ ACCEPTED_TEXTS = [
 def readings():
     """The texts, each into rooms of several sizes. Behind the fields stand 1, as nothing but the buffer changes, and the buffer."""
     for text, number, at in REFUSED_TEXTS:
-        for room in (0, 5, 3003):
+        for room in (0, 2 * NUMBERS - 1, MOST_NUMBERS + NUMBERS):
             yield ('read_route', room, text), (number, at, 0, 0, 0, 0, 1, *doors.lent(room))
     for text, fields, numbers in ACCEPTED_TEXTS:
         need = len(numbers)
-        for room in (need, need + 4):
+        for room in (need, need + NUMBERS + 1):
             yield ('read_route', room, text), (0, 0, *fields, 1, *numbers, *doors.lent(room)[need:])
         # "10: buffer shorter than 3n (line 0)"
-        for room in range(need)[::-1][:4]:
+        for room in range(need)[::-1][:NUMBERS + 1]:
             yield ('read_route', room, text), (10, 0, 0, 0, 0, 0, 1, *doors.lent(room))
 
 

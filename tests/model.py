@@ -17,6 +17,9 @@ MILLIMETRES = 111_194_927  # in a degree of a great circle
 
 MOST_BYTES = 60_000
 MOST_POINTS = 1_000
+# "three numbers a point: latitude, longitude, and 1 for the first point and after `g`, else 0"
+NUMBERS = len(('latitude', 'longitude', 'third'))
+MOST_NUMBERS = NUMBERS * MOST_POINTS
 MOST_DIVISOR = 1_000_000
 
 
@@ -200,7 +203,7 @@ def place_of(latitude, longitude, mark, line):
 
 
 def route_of(text):
-    """A text's points, three numbers each, and its target's millimetres or None. "1 first; then the first bad line from the top"."""
+    """A text's points, each with its numbers, and its target's millimetres or None. "1 first; then the first bad line from the top"."""
     if len(text) > MOST_BYTES:
         raise Refused(1, 0)
     lines = lines_of(text)
@@ -237,20 +240,20 @@ def read(text, buffer):
     try:
         points, target = route_of(text)
         # "then 10": "buffer shorter than 3n (line 0)"
-        if len(buffer) < 3 * len(points):
+        if len(buffer) < NUMBERS * len(points):
             raise Refused(10, 0)
     except Refused as refused:
         # "A refusal gives zero in every value beside its number (and line) and writes to no lent buffer"
         return (*refused.args, 0, 0, 0, 0)
     # "it writes three numbers a point"; "the rest of the buffer is unchanged"
-    buffer[:3 * len(points)] = [number for point in points for number in point]
+    buffer[:NUMBERS * len(points)] = [number for point in points for number in point]
     # "its millimetres (0 if none), and line 0"
     return 0, 0, len(points), int(target is not None), length_of(points), target or 0
 
 
 def report(text):
     """What the program `routereport` prints. It has room for every route."""
-    refusal, line, points, has_target, length, target = read(text, [0] * (3 * MOST_POINTS))
+    refusal, line, points, has_target, length, target = read(text, [0] * MOST_NUMBERS)
     if refusal:
         return b'refused\t%d\t%d\n' % (refusal, line)
     return b'points\t%d\nlength\t%d\ntarget\t%b\n' % (points, length, b'%d' % target if has_target else b'none')

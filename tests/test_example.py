@@ -16,12 +16,13 @@ STROKES = {0: 'outside', 1: 'move', 2: 'line'}
 
 def expected():
     """What the example has to print, by the model."""
-    buffer = [0] * 3_000
+    buffer = [0] * model.MOST_NUMBERS
     refusal, line, points, has_target, length, target = model.DOORS['read_route'](TEXT, buffer)
     said = [f'{points} points, {length} mm', f'target {target} mm']
     pen = 0
-    for at in range(0, 3 * points, 3):
-        refusal, stroke, x, y, pen = model.DOORS['pen_step'](pen, *WINDOW, DIVISOR, MERIDIAN, *buffer[at:at + 3])
+    for at in range(0, model.NUMBERS * points, model.NUMBERS):
+        latitude, longitude, third, *_ = buffer[at:at + model.NUMBERS]
+        refusal, stroke, x, y, pen = model.DOORS['pen_step'](pen, *WINDOW, DIVISOR, MERIDIAN, latitude, longitude, third)
         said.append(STROKES[stroke] + (f' {x:.6f} {y:.6f}' if stroke else ''))
     return '\n'.join(said) + '\n'
 

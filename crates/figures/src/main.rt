@@ -6,6 +6,9 @@ use globe::Length;
 use globe::Place;
 use globe::Point;
 use globe::Sine;
+use points::MOST_NUMBERS;
+use points::NUMBERS;
+use points::put;
 use route::Reading;
 use route::Target;
 use route::read;
@@ -19,6 +22,9 @@ const EAST: i32 = 1_800_000_000;
 const WEST: i32 = -1_800_000_000;
 
 const LEAST: i64 = -9_223_372_036_854_775_808;
+
+// The numbers of two points.
+const TWO: usize = 2 * NUMBERS;
 
 fn text(s: &[u8]) {
     io::write_all(1, s);
@@ -247,33 +253,36 @@ fn long_legs() {
     );
 }
 
+// A point at 0, 0 and one two ticks north of it at a longitude, with their third numbers.
+fn two_points(name: &[u8], first: i32, longitude: i32, second: i32) {
+    let mut two = [0; TWO];
+    put(&mut two, 0, 0, 0, first);
+    put(&mut two, 1, 2, longitude, second);
+    length(name, globe::measure(&two));
+}
+
 fn buffers() {
     length(b"no points", globe::measure(&[]));
-    length(b"two points", globe::measure(&[0, 0, 1, 2, 0, 0]));
-    length(
-        b"two points, the pen up between",
-        globe::measure(&[0, 0, 1, 2, 0, 1]),
-    );
+    two_points(b"two points", 1, 0, 0);
+    two_points(b"two points, the pen up between", 1, 0, 1);
 }
 
 fn buffer_refusals() {
-    length(b"seven numbers", globe::measure(&[0, 0, 1, 2, 0, 0, 0]));
-    length(b"a third number of 2", globe::measure(&[0, 0, 1, 2, 0, 2]));
-    length(
-        b"a first third number of 0",
-        globe::measure(&[0, 0, 0, 2, 0, 0]),
-    );
-    length(
-        b"a second point out of range",
-        globe::measure(&[0, 0, 1, 2, EAST, 0]),
-    );
+    let mut more = [0; TWO + 1];
+    put(&mut more, 0, 0, 0, 1);
+    length(b"two points and a number more", globe::measure(&more));
+    two_points(b"a third number of 2", 1, 0, 2);
+    two_points(b"a first third number of 0", 0, 0, 0);
+    two_points(b"a second point out of range", 1, EAST, 0);
 }
 
 fn long_buffers() {
-    let mut many = [0; 3_003];
-    many[2] = 1;
-    length(b"1,000 points", globe::measure(&many[..3_000]));
-    length(b"1,001 points", globe::measure(&many));
+    let mut most = [0; MOST_NUMBERS];
+    put(&mut most, 0, 0, 0, 1);
+    length(b"1,000 points", globe::measure(&most));
+    let mut more = [0; MOST_NUMBERS + NUMBERS];
+    put(&mut more, 0, 0, 0, 1);
+    length(b"1,001 points", globe::measure(&more));
 }
 
 fn goal(t: Target) {
@@ -314,10 +323,10 @@ fn reading(name: &[u8], r: Reading, buffer: &[i32]) {
 }
 
 fn routes() {
-    let mut a = [9; 8];
+    let mut a = [9; TWO + 2];
     let r = read(b"route\tpoint\np\t0\t0\np\t0.0000002\t0\n", &mut a);
-    reading(b"two points into eight numbers", r, &a);
-    let mut b = [9; 6];
+    reading(b"two points, and room for two numbers more", r, &a);
+    let mut b = [9; TWO];
     let s = read(
         b"route\tcomma\nt\t2,5\np\t0\t0\ng\np\t0\t0,0000002\n",
         &mut b,
@@ -341,13 +350,13 @@ fn marks() {
 }
 
 fn route_refusals() {
-    let mut a = [9; 5];
+    let mut a = [9; TWO - 1];
     let r = read(b"route\tpoint\np\t0\t0\np\t0.0000002\t0\n", &mut a);
-    reading(b"two points into five numbers", r, &a);
-    let mut b = [9; 6];
+    reading(b"two points, and room for a number less", r, &a);
+    let mut b = [9; TWO];
     let s = read(b"route\tpoint\np\t1\t2\np\t3\t4.\n", &mut b);
     reading(b"a good line, then a bad one", s, &b);
-    let mut c = [9; 2];
+    let mut c = [9; NUMBERS - 1];
     let t = read(b"route\tpoint\np\t1\t2\ng\n", &mut c);
     reading(b"a last g, and too few numbers", t, &c);
 }

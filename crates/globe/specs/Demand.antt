@@ -9,7 +9,7 @@ use Rattle.globe.specs.declared.Place.{Place}
 use Rattle.globe.specs.declared.Place.the-variants as P
 use Rattle.globe.specs.declared.Point.{Point}
 use Rattle.globe.specs.declared.Point.the-variants as Q
-use Rattle.globe.specs.Refusal.{PLACE}
+use Rattle.refusals.specs.Refusal.{PLACE}
 use Rattle.ticks.specs.Ticks.{isLongitude, accepted, offsetOf}
 
 -- the point has a place

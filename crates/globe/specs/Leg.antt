@@ -8,7 +8,7 @@ use Rattle.sines.specs.Greatest.{greatest}
 use Rattle.sines.specs.Back.{greatestAngle}
 use Rattle.globe.specs.declared.Length.{Length}
 use Rattle.globe.specs.declared.Length.the-variants.{Millimetres, Refused}
-use Rattle.ticks.specs.Choice.{firstOf}
+use Rattle.refusals.specs.Choice.{firstOf}
 use Rattle.ticks.specs.Ticks.{fullTurn, pointRefusal}
 use Rattle.globe.specs.Angle.{shortCosine}
 

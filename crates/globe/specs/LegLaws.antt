@@ -84,7 +84,11 @@ product-top a b = mul-le-mul (cosine-top a) (cosine-top b)
 pub square-top : {a : ℕ} → a ≤ quarter → shortSine a * shortSine a ≤ shortUnit * shortUnit
 square-top h = mul-le-mul (shortSine-top h) (shortSine-top h)
 
-pub chord-top : (m p q : ℕ) → m ≤ shortUnit → p ≤ quarter → q ≤ quarter → chord m p q ≤ 2_000_000_000_000_000_000
+-- two squares of a short sine of 1
+abbrev pub greatestChord : ℕ
+greatestChord = 2 * shortUnit * shortUnit
+
+pub chord-top : (m p q : ℕ) → m ≤ shortUnit → p ≤ quarter → q ≤ quarter → chord m p q ≤ greatestChord
 chord-top m p q h k l = omega (arith, square-top k, whole {m = m} (omega arith) h (square-top l))
 
 -- a refusal is what is answered
@@ -133,7 +137,10 @@ unfolding legOf
 leg-same-point lat lon p = rw p (ap Millimetres (same-point lat lon))
 
 -- no leg is longer than half a turn
-pub longest : (lat lon lat′ lon′ : ℤ) → legLength lat lon lat′ lon′ ≤ 20_015_086_860
+abbrev pub longestLeg : ℕ
+longestLeg = 20_015_086_860
+
+pub longest : (lat lon lat′ lon′ : ℤ) → legLength lat lon lat′ lon′ ≤ longestLeg
 unfolding legLength
 longest lat lon lat′ lon′ =
     omega (arith, greatestAngle-meets (rootOf (chord (cosines (shortCosine lat) (shortCosine lat′)) (halfNorth lat lat′) (halfEast lon lon′))) .inside)

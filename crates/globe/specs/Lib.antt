@@ -1,4 +1,3 @@
-pub mod Refusal
 pub mod Angle
 pub mod AngleLaws
 pub mod Sheet
@@ -7,8 +6,8 @@ pub mod SheetLaws
 pub mod Leg
 pub mod LegLaws
 pub mod Newton
-pub mod Buffer
-pub mod BufferLaws
+pub mod Measure
+pub mod MeasureLaws
 pub mod Paper
 pub mod Unique
 pub mod Figures

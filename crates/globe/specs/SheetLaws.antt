@@ -21,10 +21,11 @@ use Rattle.globe.specs.declared.Place.{Place}
 use Rattle.globe.specs.declared.Place.the-variants as P
 use Rattle.globe.specs.declared.Point.{Point}
 use Rattle.globe.specs.declared.Point.the-variants as Q
-use Rattle.globe.specs.Refusal.{PLACE}
-use Rattle.ticks.specs.Choice.{unless, if_then_else_}
+use Rattle.refusals.specs.Refusal.{LATITUDE, LONGITUDE, PLACE, MERIDIAN}
+use Rattle.refusals.specs.Choice.{unless, if_then_else_}
 use Rattle.ticks.specs.Ticks.{isLatitude, isLongitude, accepted, turned, offsetOf, pointRefusal, sheetRefusal}
-use Rattle.ticks.specs.TickLaws.{and-true, true-and, latitude-size, size-latitude, is-longitude, offset-longitude, sum-longitude, turn-back, back-turn, no-offset, sheet-accepted}
+use Rattle.refusals.specs.Tests.{and-true, true-and}
+use Rattle.ticks.specs.TickLaws.{latitude-size, size-latitude, is-longitude, offset-longitude, sum-longitude, turn-back, back-turn, no-offset, sheet-accepted}
 use Rattle.globe.specs.Sheet.{Sheet, withSign, cylinder, sinusoid, placed, placeOf, cylindricalOf, sinusoidalOf, atPole, isExact, offPole, pointAt, pointFrom, backOf, cylindricalBackOf, sinusoidalBackOf}
 use Rattle.globe.specs.Angle.{signedLongSine}
 use Rattle.globe.specs.AngleLaws.{cosine-off, cosine-pole}
@@ -102,7 +103,7 @@ module _ (s : Sheet) where
     unfolding placeOf sheetRefusal pointRefusal
     has-place h = go (isLatitude lat) (isLongitude lon) (rw m at h)
       where
-        go : (a b : Bool) → HasPlace (placed (unless a 6 (unless b 7 0)) (P.At x (s .height lat))) → a && b ≡ true
+        go : (a b : Bool) → HasPlace (placed (unless a LATITUDE (unless b LONGITUDE 0)) (P.At x (s .height lat))) → a && b ≡ true
         go true true h = refl
         go true false h = absurd h
         go false b h = absurd h
@@ -155,7 +156,7 @@ module _ (s : Sheet) where
     module _ (x y meridian lat : ℤ) (m : isLongitude meridian ≡ true) (a : isLatitude lat ≡ true) (h : s .height lat ≡ y) where
       pole-right : {lat′ lon : ℤ} → s .width lat ≡ 0 → atPole lat x meridian ≡ Q.At lat′ lon → Right x y meridian lat′ lon
       pole-right w f =
-          let z = past (eqZ x (pos 0)) 11 _ f in
+          let z = past (eqZ x (pos 0)) PLACE _ f in
           let x-is = ap (λ (n : ℕ). offsetOf meridian meridian *ℤ pos n) w ∙ *ℤ-zero (offsetOf meridian meridian) ∙ sym (eqZ-true x (pos 0) (z .0)) in
           rw (← same-lat (z .1), ← same-lon (z .1))
           (true-and a m, place-is lat meridian meridian m (true-and a m) ∙ rw (x-is, h), λ _. no-offset meridian m)
@@ -164,8 +165,8 @@ module _ (s : Sheet) where
       off-right w f =
           let c = s .width lat in
           let q = quotZ x (pos c) in
-          let e = past (isExact x c) 11 _ f in
-          let o = past (isLongitude q) 11 _ (e .1) in
+          let e = past (isExact x c) PLACE _ f in
+          let o = past (isLongitude q) PLACE _ (e .1) in
           let r = is-longitude (turned (meridian +ℤ q)) (sum-longitude q meridian (o .0) m) in
           let x-is = ap (λ (d : ℤ). d *ℤ pos c) (back-turn q meridian (o .0) m) ∙ eqZ-true (q *ℤ pos c) x (e .0) in
           rw (← same-lat (o .1), ← same-lon (o .1))
@@ -182,7 +183,7 @@ module _ (s : Sheet) where
     pub back-right : (x y meridian lat lon : ℤ) → backOf s x y meridian ≡ Q.At lat lon → Right x y meridian lat lon
     unfolding backOf
     back-right x y meridian lat lon e =
-        let m = past (isLongitude meridian) 14 _ e in
+        let m = past (isLongitude meridian) MERIDIAN _ e in
         go (m .0) (s .latitude y) refl (m .1)
       where
         go : isLongitude meridian ≡ true → (o : Option ℤ) → s .latitude y ≡ o → pointFrom s o x meridian ≡ Q.At lat lon → Right x y meridian lat lon

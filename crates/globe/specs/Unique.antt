@@ -1,28 +1,23 @@
--- "Prove that two results allowed by one statement are equal": each statement says that the result equals a definition, so one law
--- serves them all. The list has an entry for each function of signed, sines, ticks and globe that others can call.
+-- "Prove that two results allowed by one statement are equal": an entry for each function of this crate that others can call, and of those
+-- that it stands on.
 -- Assumes nothing.
-use mathlib.Core.Path.{_≡_, sym, _∙_}
 use mathlib.Core.List.{List}
 use Prim.Native.Nat.{ℕ}
 use lib.IntN.{ℤ, natAbs}
 use mir.Syntax.{w64}
+use Rattle.refusals.specs.Choice.{firstOf}
+use Rattle.refusals.specs.One.{One, one}
 use Rattle.signed.specs.Sign.{signAs, nearest}
 use Rattle.sines.specs.Table.{sines}
-use Rattle.ticks.specs.Choice.{firstOf}
 use Rattle.ticks.specs.Ticks.{isLatitude, isLongitude, turned, offsetOf, pointRefusal, sheetRefusal}
+use Rattle.points.specs.Points.{count, latitudeAt, longitudeAt, thirdAt, putAt, bufferRefusal}
 use Rattle.globe.specs.Angle.{longSineOf, shortSineOf}
 use Rattle.globe.specs.Sheet.{cylindricalOf, sinusoidalOf, cylindricalBackOf, sinusoidalBackOf}
 use Rattle.globe.specs.Leg.{legOf}
-use Rattle.globe.specs.Buffer.{measureOf}
-
--- what equals d is one thing
-abbrev pub One : {A : Type 0} → A → Type 0
-One {A} d = (r s : A) → r ≡ d → s ≡ d → r ≡ s
-
-pub one : {A : Type 0} (d : A) → One d
-one d r s p q = p ∙ sym q
+use Rattle.globe.specs.Measure.{measureOf}
 
 pub record Unique : Type 0 where
+  pub first-of : (a b : ℕ) → One (firstOf a b)
   pub size32 : (z : ℤ) → One (natAbs z)
   pub size64 : (z : ℤ) → One (natAbs z)
   pub with-sign-of : (z : ℤ) (n : ℕ) → One (nearest w64 (signAs z n))
@@ -33,7 +28,12 @@ pub record Unique : Type 0 where
   pub offset : (lon meridian : ℤ) → One (offsetOf lon meridian)
   pub point-refusal : (lat lon : ℤ) → One (pointRefusal lat lon)
   pub sheet-refusal : (lat lon meridian : ℤ) → One (sheetRefusal lat lon meridian)
-  pub first-of : (a b : ℕ) → One (firstOf a b)
+  pub count : (points : List ℤ) → One (count points)
+  pub latitude : (points : List ℤ) (i : ℕ) → One (latitudeAt points i)
+  pub longitude : (points : List ℤ) (i : ℕ) → One (longitudeAt points i)
+  pub third : (points : List ℤ) (i : ℕ) → One (thirdAt points i)
+  pub put : (points : List ℤ) (i : ℕ) (lat lon third : ℤ) → One (putAt points i lat lon third)
+  pub buffer-refusal : (points : List ℤ) → One (bufferRefusal points)
   pub long-sine : (angle : ℤ) → One (longSineOf angle)
   pub short-sine : (angle : ℤ) → One (shortSineOf angle)
   pub cylindrical : (lat lon meridian : ℤ) → One (cylindricalOf lat lon meridian)
@@ -45,6 +45,7 @@ pub record Unique : Type 0 where
 
 pub unique : Unique
 unique = record {
+  first-of = λ a b. one (firstOf a b);
   size32 = λ z. one (natAbs z);
   size64 = λ z. one (natAbs z);
   with-sign-of = λ z n. one (nearest w64 (signAs z n));
@@ -55,7 +56,12 @@ unique = record {
   offset = λ lon meridian. one (offsetOf lon meridian);
   point-refusal = λ lat lon. one (pointRefusal lat lon);
   sheet-refusal = λ lat lon meridian. one (sheetRefusal lat lon meridian);
-  first-of = λ a b. one (firstOf a b);
+  count = λ points. one (count points);
+  latitude = λ points i. one (latitudeAt points i);
+  longitude = λ points i. one (longitudeAt points i);
+  third = λ points i. one (thirdAt points i);
+  put = λ points i lat lon third. one (putAt points i lat lon third);
+  buffer-refusal = λ points. one (bufferRefusal points);
   long-sine = λ angle. one (longSineOf angle);
   short-sine = λ angle. one (shortSineOf angle);
   cylindrical = λ lat lon meridian. one (cylindricalOf lat lon meridian);

@@ -6,23 +6,20 @@ ghost use Rattle.sines.specs.Table.{sines};
 ghost use Rattle.sines.specs.Sine.{quarter, shortUnit};
 ghost use Rattle.ticks.specs.Ticks.{isLatitude, isLongitude};
 ghost use Rattle.globe.specs.Leg.{halfNorth, halfEast, chord, lengthOf, legLength, legOf};
+use crate::DEGREE;
+use crate::DEGREE_LENGTH;
 use crate::Length;
-use crate::lookup::SHORT_UNIT;
+use crate::SHORT_UNIT;
 use crate::lookup::short_cosine;
 use crate::lookup::short_sine_of;
 use crate::root::root;
 use crate::search::greatest_angle;
+use refusals::first_of;
 use signed::size64;
 use sines::Entries;
 use ticks::point_refusal;
-use ticks::refusal::first_of;
 
-const TURN: u64 = 3_600_000_000;
-
-// a degree in ticks, and its length in millimetres
-const DEGREE: u64 = 10_000_000;
-
-const DEGREE_LENGTH: u64 = 111_194_927;
+const TURN: u64 = ticks::TURN as u64;
 
 fn half_north(latitude: i32, latitude2: i32) -> u32
     requires { ⌜ isLatitude latitude ≡ true ⌝ }
@@ -72,7 +69,6 @@ fn chord_of(t: &Entries, m: u64, p: u32, q: u32) -> u64
 // From H to millimetres. The arc is at most 1.8 × 10^9 ticks, so that the product is about 2 × 10^17.
 fn length_of(t: &Entries, h: u64) -> u64
     requires { ⌜ now t ≡ sines ⌝ }
-    requires { ⌜ h ≤ 2_000_000_000_000_000_000 ⌝ }
     ensures { λ r. ⌜ r ≡ lengthOf h ⌝ }
 {
     2 * greatest_angle(t, root(h)) as u64 * DEGREE_LENGTH / DEGREE

@@ -5,17 +5,24 @@ ghost use mathlib.Core.Path.{_≡_};
 ghost use Rattle.globe.specs.Angle.{longSineOf, shortSineOf};
 ghost use Rattle.globe.specs.Sheet.{cylindricalOf, sinusoidalOf, cylindricalBackOf, sinusoidalBackOf};
 ghost use Rattle.globe.specs.Leg.{legOf};
-ghost use Rattle.globe.specs.Buffer.{measureOf};
+ghost use Rattle.globe.specs.Measure.{measureOf};
 
-pub mod buffer;
+mod buffer;
 mod legs;
 mod lookup;
-pub mod refusal;
 mod root;
 mod search;
 mod sheet;
 
 use sines::table_of_sines;
+
+// 10^9 times a sine or a cosine of 1.
+pub const SHORT_UNIT: u64 = 1_000_000_000;
+
+// A degree in ticks, and its length in millimetres.
+pub const DEGREE: u64 = 10_000_000;
+
+pub const DEGREE_LENGTH: u64 = 111_194_927;
 
 pub enum Sine {
     Value(i64),
@@ -95,7 +102,7 @@ pub fn leg(latitude: i32, longitude: i32, latitude2: i32, longitude2: i32) -> Le
     legs::leg(&t, latitude, longitude, latitude2, longitude2)
 }
 
-// The length of a whole point buffer: three numbers a point, the leg into a point whose third number is 1 not counted.
+// The length of a whole point buffer, the leg into a point whose third number is 1 not counted.
 pub fn measure(points: &[i32]) -> Length
     ensures { λ r. ⌜ r ≡ measureOf (now (points .entry)) ⌝ }
 {

@@ -8,21 +8,20 @@ ghost use Rattle.sines.specs.Sine.{quarter, longSine, shortSine};
 ghost use Rattle.ticks.specs.Ticks.{isLatitude};
 ghost use Rattle.globe.specs.Angle.{signedLongSine, shortCosine, longSineOf, shortSineOf};
 use crate::Sine;
+use refusals::LATITUDE;
 use signed::size32;
 use signed::with_sign_of;
 use sines::Entries;
+use ticks::NORTH;
 use ticks::is_latitude;
-use ticks::refusal::LATITUDE;
 
 pub(crate) const ROWS: usize = 4_500;
 
 pub(crate) const STEP: u32 = 200_000;
 
-pub(crate) const QUARTER: u32 = 900_000_000;
+pub(crate) const QUARTER: u32 = NORTH as u32;
 
 pub(crate) const SHORTENING: u64 = 10_000;
-
-pub(crate) const SHORT_UNIT: u64 = 1_000_000_000;
 
 pub(crate) fn entry(t: &Entries, k: usize) -> u64
     requires { ⌜ now t ≡ sines ⌝ }

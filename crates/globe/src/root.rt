@@ -1,12 +1,10 @@
 // The whole-number square root, by Newton's steps.
 ghost use mathlib.Core.Path.{_≡_};
-ghost use Prim.Native.Nat.{_≤_};
 ghost use Rattle.globe.specs.Leg.{rootOf};
 
 // The greatest number whose square is at most `h`. A step leads from any guess to the root or above it, and from above it down. The first
 // guess is a power of two with half as many bits as `h`, so that its step needs no division.
 pub(crate) fn root(h: u64) -> u64
-    requires { ⌜ h ≤ 2_000_000_000_000_000_000 ⌝ }
     ensures { λ r. ⌜ r ≡ rootOf h ⌝ }
 {
     let half = (64 - u64::leading_zeros(h)) / 2;

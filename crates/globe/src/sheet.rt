@@ -11,8 +11,9 @@ use crate::Point;
 use crate::lookup::long_sine_of;
 use crate::lookup::short_cosine;
 use crate::lookup::signed_long_sine;
-use crate::refusal::PLACE;
 use crate::search::last_angle;
+use refusals::MERIDIAN;
+use refusals::PLACE;
 use signed::size64;
 use signed::with_sign_of;
 use sines::Entries;
@@ -20,7 +21,6 @@ use ticks::into_turn;
 use ticks::is_latitude;
 use ticks::is_longitude;
 use ticks::offset;
-use ticks::refusal::MERIDIAN;
 use ticks::sheet_refusal;
 
 // x is the offset, y the long sine of the latitude.

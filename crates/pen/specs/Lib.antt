@@ -1,4 +1,3 @@
-pub mod Refusal
 pub mod Position
 pub mod PositionLaws
 pub mod Reach

@@ -8,7 +8,7 @@ use lib.IntN.{ℤ, pos}
 use Rattle.signed.specs.Tests.{eqZ}
 use Rattle.globe.specs.declared.Place.{Place}
 use Rattle.globe.specs.declared.Place.the-variants as P
-use Rattle.ticks.specs.Choice.{unless, if_then_else_}
+use Rattle.refusals.specs.Choice.{unless, if_then_else_}
 use Rattle.globe.specs.Sheet.{sinusoidalOf}
 use Rattle.pen.specs.declared.Window.{Window}
 use Rattle.pen.specs.declared.Pen.{Pen}
@@ -16,7 +16,7 @@ use Rattle.pen.specs.declared.Step.{Step}
 use Rattle.pen.specs.declared.Answer.the-variants.{Drawn, Refused}
 use Rattle.pen.specs.declared.Stroke.{Stroke}
 use Rattle.pen.specs.declared.Stroke.the-variants.{Outside, Move, Line}
-use Rattle.pen.specs.Refusal.{WINDOW, DIVISOR}
+use Rattle.refusals.specs.Refusal.{WINDOW, DIVISOR}
 use Rattle.pen.specs.Position.{millimetres, across, float, scaled}
 
 -- refused where "an edge is NaN, left is not below right, or bottom is not below top": where a NaN stands, `lt` is false

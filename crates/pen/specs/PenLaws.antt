@@ -7,13 +7,13 @@ use lib.Ieee.{Float}
 use lib.IntN.{ℤ}
 use Rattle.globe.specs.declared.Place.{Place}
 use Rattle.globe.specs.declared.Place.the-variants.{At, Refused}
-use Rattle.ticks.specs.Choice.{unless, if_then_else_}
+use Rattle.refusals.specs.Choice.{unless, if_then_else_}
 use Rattle.globe.specs.Sheet.{sinusoidalOf}
 use Rattle.pen.specs.declared.Window.{Window}
 use Rattle.pen.specs.declared.Pen.{Pen}
 use Rattle.pen.specs.declared.Step.{Step}
 use Rattle.pen.specs.declared.Stroke.the-variants.{Move, Line}
-use Rattle.pen.specs.Refusal.{WINDOW, DIVISOR}
+use Rattle.refusals.specs.Refusal.{WINDOW, DIVISOR}
 use Rattle.pen.specs.Position.{millimetres, across, float, scaled}
 use Rattle.pen.specs.Pen.{isWindow, isDivisor, inside, isJoined, strokeTo, outside, drew, drawn, refusedWith, stepAt, stepOf}
 

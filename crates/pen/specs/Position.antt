@@ -5,6 +5,7 @@ use lib.Ieee.{Float, binary64, div, ofInt}
 use lib.IntN.{ℤ, pos, _*ℤ_}
 use lib.Signed.{quotZ}
 use Rattle.sines.specs.Sine.{shortUnit}
+use Rattle.ticks.specs.Ticks.{half}
 use Rattle.globe.specs.Leg.{degree, degreeLength}
 
 -- "× 111,194,927 / 10,000,000 dropping toward zero", of ticks: "Y is latitude" so treated
@@ -25,4 +26,4 @@ scaled divisor x = div binary64 x (float (pos divisor))
 
 -- no place lies further from the middle than half a turn, in ticks
 abbrev pub furthest : ℕ
-furthest = 1_800_000_000
+furthest = half

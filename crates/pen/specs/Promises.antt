@@ -12,7 +12,7 @@ use lib.IntN.{ℤ, pos, negℤ, natAbs, _*ℤ_}
 use Rattle.signed.specs.Sides.{mul-neg}
 use Rattle.globe.specs.declared.Place.the-variants as P
 use Rattle.ticks.specs.Ticks.{offsetOf}
-use Rattle.ticks.specs.TickLaws.{and-true}
+use Rattle.refusals.specs.Tests.{and-true}
 use Rattle.globe.specs.Angle.{shortCosine}
 use Rattle.globe.specs.AngleLaws.{cosine-mirror}
 use Rattle.globe.specs.Sheet.{sinusoid, sinusoidalOf}

@@ -16,7 +16,8 @@ use Rattle.sines.specs.Sine.{shortUnit}
 use Rattle.globe.specs.Leg.{degree, degreeLength}
 use Rattle.globe.specs.declared.Place.the-variants.{At}
 use Rattle.ticks.specs.Ticks.{isLatitude, isLongitude, offsetOf}
-use Rattle.ticks.specs.TickLaws.{and-true, latitude-size, offset-longitude}
+use Rattle.refusals.specs.Tests.{and-true}
+use Rattle.ticks.specs.TickLaws.{latitude-size, offset-longitude}
 use Rattle.globe.specs.Angle.{shortCosine}
 use Rattle.globe.specs.AngleLaws.{cosine-top}
 use Rattle.globe.specs.Sheet.{sinusoid, sinusoidalOf}

@@ -1,9 +1,9 @@
--- "Prove that two results allowed by one statement are equal": answer and next pen equal a definition, so the globe's one law serves
+-- "Prove that two results allowed by one statement are equal": answer and next pen equal a definition, so the one law serves
 -- here too. The list has an entry for each function that others can call.
 -- Assumes nothing.
 use Prim.Native.Nat.{ℕ}
 use lib.IntN.{ℤ}
-use Rattle.globe.specs.Unique.{One, one}
+use Rattle.refusals.specs.One.{One, one}
 use Rattle.pen.specs.declared.Window.{Window}
 use Rattle.pen.specs.declared.Pen.{Pen}
 use Rattle.pen.specs.Pen.{newPen, stepOf}

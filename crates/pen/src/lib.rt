@@ -4,13 +4,12 @@ ghost use mathlib.Core.Path.{_≡_};
 ghost use Rattle.pen.specs.Pen.{isWindow, isDivisor, inside, newPen, drawn, stepOf};
 
 mod position;
-pub mod refusal;
 
 use crate::position::across;
 use crate::position::along;
-use crate::refusal::DIVISOR;
-use crate::refusal::WINDOW;
 use globe::Place;
+use refusals::DIVISOR;
+use refusals::WINDOW;
 
 const MOST_A_PIXEL: u32 = 1_000_000;
 

@@ -5,13 +5,11 @@ ghost use lib.IntN.{natAbs};
 ghost use Rattle.sines.specs.Sine.{shortUnit};
 ghost use Rattle.pen.specs.Position.{millimetres, across, float, furthest};
 
-// 10^9 times a cosine of 1
-const SHORT_UNIT: i64 = 1_000_000_000;
+const SHORT_UNIT: i64 = globe::SHORT_UNIT as i64;
 
-// a degree in ticks, and its length in millimetres
-const DEGREE: i64 = 10_000_000;
+const DEGREE: i64 = globe::DEGREE as i64;
 
-const DEGREE_LENGTH: i64 = 111_194_927;
+const DEGREE_LENGTH: i64 = globe::DEGREE_LENGTH as i64;
 
 // At most half a turn is asked for: some 2 × 10^10 millimetres, which a float holds exactly.
 pub(crate) fn along(ticks: i64) -> f64

@@ -10,7 +10,7 @@ use Rattle.route.specs.declared.lines.Line.{Line}
 use Rattle.route.specs.declared.lines.Line.the-variants as L
 use Rattle.route.specs.declared.lines.State.{State}
 use Rattle.route.specs.declared.reader.Judged.{Judged}
-use Rattle.route.specs.Pieces.{TAB, indexOf}
+use Rattle.numbers.specs.Pieces.{TAB, indexOf}
 use Rattle.route.specs.Line.{numbersOf}
 use Rattle.route.specs.LineLaws.{LastSays, refused, read}
 use Rattle.route.specs.Route.{onLine}

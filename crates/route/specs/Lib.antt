@@ -1,12 +1,7 @@
 pub mod Line
 pub mod LineLaws
-pub mod Number
-pub mod NumberLaws
 pub mod Paper
-pub mod PieceLaws
-pub mod Pieces
 pub mod Promises
-pub mod Refusal
 pub mod Route
 pub mod RouteLaws
 pub mod Unique

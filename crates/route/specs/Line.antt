@@ -6,41 +6,28 @@ use mathlib.Core.List.{List, [], _∷_}
 use Prim.Native.Nat.{ℕ, _+_, _*_}
 use lib.Dec.{ltb}
 use lib.IntN.{ℤ, pos, natAbs}
-use Rattle.ticks.specs.Refusal.{LATITUDE, LONGITUDE}
-use Rattle.globe.specs.Refusal.{POINTS}
-use Rattle.ticks.specs.Choice.{unless, if_then_else_}
-use Rattle.ticks.specs.Ticks.{isLatitude, isLongitude}
-use Rattle.globe.specs.Buffer.{mostPoints}
-use Rattle.route.specs.declared.Mark.{Mark}
+use Rattle.refusals.specs.Refusal.{LINE, ORDER, POINTS}
+use Rattle.refusals.specs.Choice.{unless, if_then_else_}
+use Rattle.points.specs.Points.{pointNumbers, mostPoints}
+use Rattle.numbers.specs.declared.Mark.{Mark}
+use Rattle.numbers.specs.declared.Kind.the-variants as K
 use Rattle.route.specs.declared.Target.{Target}
 use Rattle.route.specs.declared.Target.the-variants as T
-use Rattle.route.specs.declared.numbers.Number.{Number}
-use Rattle.route.specs.declared.numbers.Number.the-variants as N
+use Rattle.numbers.specs.declared.Number.{Number}
+use Rattle.numbers.specs.declared.Number.the-variants as N
 use Rattle.route.specs.declared.lines.Line.{Line}
 use Rattle.route.specs.declared.lines.Line.the-variants as L
 use Rattle.route.specs.declared.lines.Before.{Before}
 use Rattle.route.specs.declared.lines.Before.the-variants as B
 use Rattle.route.specs.declared.lines.State.{State}
-use Rattle.route.specs.Refusal.{LINE, ORDER}
-use Rattle.route.specs.Pieces.{TAB, split, isByte}
-use Rattle.route.specs.Number.{degrees, kilometres, numberOf}
+use Rattle.numbers.specs.Pieces.{TAB, split, isByte}
+use Rattle.numbers.specs.Number.{numberOf}
 
 -- ---- a field
 
 abbrev pub refusalOf : Number → ℕ
 refusalOf (N.Value v) = 0
 refusalOf (N.Refused n) = n
-
--- a number outside a range is refused
-abbrev pub within : (ℤ → Bool) → ℕ → Number → Number
-within test n (N.Value v) = unless (test v) (N.Refused n) (N.Value v)
-within test n (N.Refused m) = N.Refused m
-
-unfoldable pub latitudeOf : Mark → List ℕ → Number
-latitudeOf mark s = within isLatitude LATITUDE (numberOf degrees mark s)
-
-unfoldable pub longitudeOf : Mark → List ℕ → Number
-longitudeOf mark s = within isLongitude LONGITUDE (numberOf degrees mark s)
 
 -- "the caller takes the value out or passes the refusal on"
 abbrev pub taken : Number → (ℤ → Line) → Line
@@ -92,7 +79,7 @@ unfoldable pub targetOf : Mark → Before → List ℕ → List ℕ → Line
 targetOf mark before k s =
     unless (isByte tByte k) (L.Refused LINE)
     (unless (isFirst before) (L.Refused ORDER)
-    (taken (numberOf kilometres mark s) (λ metres.
+    (taken (numberOf K.Target mark s) (λ metres.
     L.Target (millimetres metres))))
 
 -- "latitude, tab, longitude in degrees; at most 1,000 such lines"
@@ -100,8 +87,8 @@ unfoldable pub pointOf : Mark → ℕ → List ℕ → List ℕ → List ℕ →
 pointOf mark points k s t =
     unless (isByte pByte k) (L.Refused LINE)
     (unless (ltb points mostPoints) (L.Refused POINTS)
-    (taken (latitudeOf mark s) (λ lat.
-    (taken (longitudeOf mark t) (λ lon.
+    (taken (numberOf K.Latitude mark s) (λ lat.
+    (taken (numberOf K.Longitude mark t) (λ lon.
     L.Point lat lon)))))
 
 -- the fields, the kind as the first
@@ -131,9 +118,9 @@ afterOf st (L.Refused n) = st
 abbrev pub thirdOf : Before → ℤ
 thirdOf before = if isPoint before then pos 0 else pos 1
 
--- "three numbers a point: latitude, longitude, and" the third; none for another line
+-- the numbers of a point; none for another line
 abbrev pub numbersOf : State → Line → List ℤ
-numbersOf st (L.Point lat lon) = lat ∷ (lon ∷ (thirdOf (st .before) ∷ []))
+numbersOf st (L.Point lat lon) = pointNumbers lat lon (thirdOf (st .before))
 numbersOf st (L.Target mm) = []
 numbersOf st L.Gap = []
 numbersOf st (L.Refused n) = []

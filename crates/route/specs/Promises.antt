@@ -10,10 +10,11 @@ use borrow.Author.Tests.{eqb-true, le-ltb, ltb-false, lt-leb, not-true}
 use lib.Dec.{eqb}
 use lib.IntN.{ℤ}
 use lib.ListN.{length, drop, length-append, length-drop}
-use Rattle.ticks.specs.Choice.{if_then_else_}
-use Rattle.ticks.specs.TickLaws.{and-true}
-use Rattle.globe.specs.Buffer.{numbers, count, lengthUpTo}
-use Rattle.route.specs.declared.Mark.{Mark}
+use Rattle.refusals.specs.Choice.{if_then_else_}
+use Rattle.refusals.specs.Tests.{and-true, by-test, clash}
+use Rattle.points.specs.Points.{numbers, count}
+use Rattle.globe.specs.Measure.{lengthUpTo}
+use Rattle.numbers.specs.declared.Mark.{Mark}
 use Rattle.route.specs.declared.Header.the-variants as H
 use Rattle.route.specs.declared.Target.{Target}
 use Rattle.route.specs.declared.Target.the-variants as T
@@ -23,15 +24,15 @@ use Rattle.route.specs.declared.lines.Line.{Line}
 use Rattle.route.specs.declared.lines.Line.the-variants as L
 use Rattle.route.specs.declared.lines.State.{State}
 use Rattle.route.specs.declared.reader.Judged.the-variants as J
-use Rattle.route.specs.Refusal.{TEXT, ROOM}
-use Rattle.route.specs.Pieces.{LF, TAB, onto, split, indexOf, holds, isByte, same}
-use Rattle.route.specs.PieceLaws.{by-test, split-some}
+use Rattle.refusals.specs.Refusal.{TEXT, ROOM}
+use Rattle.numbers.specs.Pieces.{LF, TAB, onto, split, indexOf, holds, isByte, same}
+use Rattle.numbers.specs.PieceLaws.{split-some}
 use Rattle.route.specs.Line.{isFirst, tByte, pByte, gByte, lineOf, fresh, afterOf}
 use Rattle.route.specs.Route.{routePoint, routeComma, headerOf, judgedOf, pointsOf, readingOf, bufferOf}
 use Rattle.route.specs.Paper.{ReadingPaper, readingPaper}
-use Rattle.route.specs.RouteLaws.{false-true, Passed, passed, counted, Accepted, accepted-text, points-of, ReadingSays, reading-says}
+use Rattle.route.specs.RouteLaws.{Passed, passed, counted, Accepted, accepted-text, points-of, ReadingSays, reading-says}
 use Rattle.route.specs.RouteLaws as Laws
-use Rattle.route.specs.LineLaws.{LineSays, line-says}
+use Rattle.route.specs.LineLaws.{line-not, LineSays, line-says}
 use Rattle.route.specs.LineLaws as Says
 
 -- ---- the words of the promises, apart from the reading
@@ -139,8 +140,8 @@ module _ (text : List ℕ) (room : ℕ) {n mm : ℕ} {target : Target} (e : read
   accepted : Accepted text (routed .st)
   accepted = accepted-text text (routed .judged)
 
-  all-three : length (pointsOf text) ≡ numbers * n
-  all-three =
+  all-numbers : length (pointsOf text) ≡ numbers * n
+  all-numbers =
       let a = accepted in
       let r = routed in
       ap length (points-of text a) ∙ omega (arith, counted (a .mark) 2 (a .second ∷ a .more) (r .st) (a .lines))
@@ -149,24 +150,24 @@ pub record PointsThenRest (text : List ℕ) (buffer : List ℤ) (n mm : ℕ) : T
   -- "The rest of the buffer is unchanged."
   pub left : bufferOf text buffer ≡ pointsOf text ++ drop (numbers * n) buffer
   -- "three numbers a point"
-  pub three : length (pointsOf text) ≡ numbers * n
+  pub all : length (pointsOf text) ≡ numbers * n
   pub as-long : length (bufferOf text buffer) ≡ length buffer
   pub millimetres : mm ≡ lengthUpTo (pointsOf text) n
 
 module _ (text : List ℕ) (buffer : List ℤ) {n mm : ℕ} {target : Target} (e : readingOf text (length buffer) ≡ R.Route n mm target) where
   left-by : bufferOf text buffer ≡ pointsOf text ++ drop (numbers * n) buffer
   unfolding bufferOf
-  left-by = rw (e, ← all-three text (length buffer) e)
+  left-by = rw (e, ← all-numbers text (length buffer) e)
 
   -- an accepted text leaves the numbers of its points, then the rest of the buffer as it was, and is as long as its points are
   pub points-then-rest : PointsThenRest text buffer n mm
   points-then-rest =
-      let t = all-three text (length buffer) e in
+      let t = all-numbers text (length buffer) e in
       let r = routed text (length buffer) e in
       let k : count (pointsOf text) ≡ n = omega arith in
       record {
         left = left-by;
-        three = t;
+        all = t;
         as-long = ap length left-by ∙ simp (length-append, length-drop) (omega arith);
         millimetres = rw k at (r .long);
       }
@@ -195,8 +196,8 @@ passed-p {mark} (Laws.gap {s} {st = st} e r) = rw (gap-no-p (line-says mark st s
 
 same-is : (s t : List ℕ) → same s t ≡ true → s ≡ t
 same-is [] [] e = refl
-same-is [] (y ∷ t) e = false-true e
-same-is (x ∷ s) [] e = false-true e
+same-is [] (y ∷ t) e = clash e refl
+same-is (x ∷ s) [] e = clash e refl
 same-is (x ∷ s) (y ∷ t) e =
     let p = and-true (eqb x y) (same s t) e in
     let a = eqb-true x y (p .0) in
@@ -311,7 +312,7 @@ saidFirst [] = T.None
 saidFirst (l ∷ ls) = saidBy l
 
 target-first : {P : Type 0} {st : State} {fields : List (List ℕ)} {mm : ℕ} → LineSays st fields (L.Target mm) → isFirst (st .before) ≡ false → P
-target-first (Says.target t u) h = false-true (sym h ∙ u)
+target-first (Says.target t u) h = clash u h
 
 -- once a line was read, the target stays
 later-same : {mark : Mark} {ss : List (List ℕ)} {st st′ : State} → Passed mark ss st st′ → isFirst (st .before) ≡ false → st′ .target ≡ st .target
@@ -357,7 +358,7 @@ pub record RoomExactly (text : List ℕ) (room : ℕ) : Type 0 where
 short-of : {text : List ℕ} {room n line : ℕ} → ReadingSays text room (R.Refused n line) → n ≡ ROOM → TooShort text room
 short-of Laws.too-long e = absurd (omega arith)
 short-of Laws.bad-header e = absurd (omega arith)
-short-of (Laws.bad-line o h) e = absurd (omega arith)
+short-of (Laws.bad-line o h) e = line-not o refl e
 short-of (Laws.too-small {st} j h) e = record { st = st; judged = j; less = h }
 
 -- 10 is answered exactly where the text is accepted and its points do not fit
@@ -377,19 +378,19 @@ pub record ZeroLine (n line : ℕ) : Type 0 where
 zero-of : {text : List ℕ} {room n line : ℕ} → ReadingSays text room (R.Refused n line) → ZeroLine n line
 zero-of Laws.too-long = record { only = λ z. inl refl; text = λ t. refl; room = λ t. refl }
 zero-of Laws.bad-header = record { only = λ z. absurd (omega arith); text = λ t. absurd (omega arith); room = λ t. absurd (omega arith) }
-zero-of (Laws.bad-line o h) = record { only = λ z. absurd (omega arith); text = λ t. absurd (omega arith); room = λ t. absurd (omega arith) }
+zero-of (Laws.bad-line o h) = record { only = λ z. absurd (omega arith); text = λ t. line-not o refl t; room = λ t. line-not o refl t }
 zero-of (Laws.too-small j h) = record { only = λ z. inr refl; text = λ t. refl; room = λ t. refl }
 
 -- "(line 0)" stands beside 1 and 10 alone
 pub refusal-zero-line : (text : List ℕ) (room : ℕ) {n line : ℕ} → readingOf text room ≡ R.Refused n line → ZeroLine n line
 refusal-zero-line text room e = zero-of (rw e at (reading-says text room))
 
-number-of : {text : List ℕ} {room n line : ℕ} → ReadingSays text room (R.Refused n line) → (TEXT ≤ n) × (n ≤ ROOM)
-number-of Laws.too-long = omega arith
-number-of Laws.bad-header = omega arith
-number-of (Laws.bad-line o h) = omega arith
-number-of (Laws.too-small j h) = omega arith
+number-of : {text : List ℕ} {room n line : ℕ} → ReadingSays text room (R.Refused n line) → n ≡ 0 → ⊥
+number-of Laws.too-long e = omega arith
+number-of Laws.bad-header e = omega arith
+number-of (Laws.bad-line o h) e = line-not o refl e
+number-of (Laws.too-small j h) e = omega arith
 
 -- 0 is the number of no refusal
-pub refusal-number : (text : List ℕ) (room : ℕ) {n line : ℕ} → readingOf text room ≡ R.Refused n line → (TEXT ≤ n) × (n ≤ ROOM)
+pub refusal-number : (text : List ℕ) (room : ℕ) {n line : ℕ} → readingOf text room ≡ R.Refused n line → n ≡ 0 → ⊥
 refusal-number text room e = number-of (rw e at (reading-says text room))

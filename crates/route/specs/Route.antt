@@ -6,10 +6,11 @@ use Prim.Native.Nat.{ℕ, _+_, _-_, _*_}
 use lib.Dec.{leb}
 use lib.IntN.{ℤ}
 use lib.ListN.{length, drop}
-use Rattle.ticks.specs.Choice.{unless, if_then_else_}
-use Rattle.globe.specs.Buffer.{numbers, count, lengthUpTo}
-use Rattle.route.specs.declared.Mark.{Mark}
-use Rattle.route.specs.declared.Mark.the-variants as M
+use Rattle.refusals.specs.Choice.{unless, if_then_else_}
+use Rattle.points.specs.Points.{numbers, count}
+use Rattle.globe.specs.Measure.{lengthUpTo}
+use Rattle.numbers.specs.declared.Mark.{Mark}
+use Rattle.numbers.specs.declared.Mark.the-variants as M
 use Rattle.route.specs.declared.Header.{Header}
 use Rattle.route.specs.declared.Header.the-variants as H
 use Rattle.route.specs.declared.Reading.{Reading}
@@ -19,8 +20,8 @@ use Rattle.route.specs.declared.lines.Line.the-variants as L
 use Rattle.route.specs.declared.lines.State.{State}
 use Rattle.route.specs.declared.reader.Judged.{Judged}
 use Rattle.route.specs.declared.reader.Judged.the-variants as J
-use Rattle.route.specs.Refusal.{TEXT, HEADER, LINE, ORDER, ROOM}
-use Rattle.route.specs.Pieces.{LF, TAB, split, same}
+use Rattle.refusals.specs.Refusal.{TEXT, HEADER, LINE, ORDER, ROOM}
+use Rattle.numbers.specs.Pieces.{LF, TAB, split, same}
 use Rattle.route.specs.Line.{isGap, lineOf, fresh, afterOf, numbersOf}
 
 -- "At most 60,000 bytes"

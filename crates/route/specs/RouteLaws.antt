@@ -2,7 +2,7 @@
 -- Assumes nothing.
 use mathlib.Core.Path.{_≡_, refl, sym}
 use mathlib.Core.Bool.{true, false}
-use mathlib.Core.List.{List, [], _∷_}
+use mathlib.Core.List.{List, [], _∷_, _++_}
 use Prim.Native.Nat.{ℕ, _+_, _-_, _*_, _≤_, _<_}
 use native.Mathlib.Omega.{arith}
 use borrow.Author.Tests.{leb-true, leb-false, le-leb}
@@ -10,9 +10,11 @@ use lib.Dec.{leb}
 use lib.IntN.{ℤ}
 use lib.ListN.{length}
 use Rattle.globe.specs.declared.Length.the-variants as G
-use Rattle.globe.specs.Buffer.{numbers, mostPoints, count, bufferRefusal, lengthUpTo, measureOf}
-use Rattle.globe.specs.BufferLaws.{fitsAfter, Points, none, next, points-accepted, points-measured}
-use Rattle.route.specs.declared.Mark.{Mark}
+use Rattle.points.specs.Points.{numbers, pointNumbers, count, mostPoints, fitsAfter, bufferRefusal}
+use Rattle.points.specs.PointLaws.{Points, none, next, points-accepted}
+use Rattle.globe.specs.Measure.{lengthUpTo, measureOf}
+use Rattle.globe.specs.MeasureLaws.{accepted-measured}
+use Rattle.numbers.specs.declared.Mark.{Mark}
 use Rattle.route.specs.declared.Header.{Header}
 use Rattle.route.specs.declared.Header.the-variants as H
 use Rattle.route.specs.declared.Reading.{Reading}
@@ -24,18 +26,15 @@ use Rattle.route.specs.declared.lines.Before.the-variants as B
 use Rattle.route.specs.declared.lines.State.{State}
 use Rattle.route.specs.declared.reader.Judged.{Judged}
 use Rattle.route.specs.declared.reader.Judged.the-variants as J
-use Rattle.route.specs.Refusal.{TEXT, HEADER, LINE, ORDER, ROOM}
-use Rattle.route.specs.Pieces.{LF, split}
-use Rattle.route.specs.PieceLaws.{by-test}
+use Rattle.refusals.specs.Refusal.{TEXT, HEADER, LINE, ORDER, ROOM, ofLine}
+use Rattle.numbers.specs.Pieces.{LF, split}
+use Rattle.refusals.specs.Tests.{by-test, clash, unless-says}
 use Rattle.route.specs.Line.{isPoint, isGap, lineOf, fresh, afterOf, thirdOf}
-use Rattle.route.specs.LineLaws.{unless-says, OfLine, LineSays, line-says, line-few}
+use Rattle.route.specs.LineLaws.{LineSays, line-says, line-few}
 use Rattle.route.specs.LineLaws as Says
 use Rattle.route.specs.Route.{mostBytes, endOf, onLine, judgeFrom, pointsFrom, headerOf, judgeAfter, judgeLines, judgedOf, pointsOf, answerOf, readingOf}
 
 -- ---- what cannot be
-
-pub false-true : {P : Type 0} → false ≡ true → P
-false-true e = let z : _≡_ {A = ℕ} 0 1 = cc in absurd (omega arith)
 
 refused-accepted : {P : Type 0} {n line : ℕ} {st : State} → J.Refused n line ≡ J.Accepted st → P
 refused-accepted e = let z : _≡_ {A = ℕ} 0 1 = cc in absurd (omega arith)
@@ -82,11 +81,11 @@ third-fits B.Point k h = rw (le-leb 1 k (h refl))
 third-fits B.Gap k h = refl
 
 pointed : {st : State} {fields : List (List ℕ)} {lat lon third : ℤ} {b : List ℤ} → LineSays st fields (L.Point lat lon)
-    → fitsAfter (st .points) third ≡ true → Points (st .points + 1) b → Points (st .points) (lat ∷ (lon ∷ (third ∷ b)))
+    → fitsAfter (st .points) third ≡ true → Points (st .points + 1) b → Points (st .points) (pointNumbers lat lon third ++ b)
 pointed (Says.point p q y x) t ps = next y x t ps
 
 module _ {mark : Mark} where
-  -- three numbers a point
+  -- so many numbers a point
   passed-counted : {ss : List (List ℕ)} {st st′ : State} → Passed mark ss st st′ → length (pointsFrom mark ss st) + numbers * st .points ≡ numbers * st′ .points
   passed-counted (ended g) = omega arith
   passed-counted (target e r) = rw e (passed-counted r)
@@ -102,16 +101,15 @@ module _ {mark : Mark} where
   passed-points : {ss : List (List ℕ)} {st st′ : State} → Passed mark ss st st′ → (isPoint (st .before) ≡ true → 1 ≤ st .points)
       → Points (st .points) (pointsFrom mark ss st)
   passed-points (ended g) h = none
-  passed-points (target e r) h = rw e (passed-points r (λ z. false-true z))
+  passed-points (target e r) h = rw e (passed-points r (λ z. clash z refl))
   passed-points (point {s = s} {st = st} e r) h = rw e (pointed (line-says mark st s _ (sym e)) (third-fits (st .before) (st .points) h) (passed-points r (λ z. omega arith)))
-  passed-points (gap e r) h = rw e (passed-points r (λ z. false-true z))
+  passed-points (gap e r) h = rw e (passed-points r (λ z. clash z refl))
 
 -- of all lines after line 1
 module _ (mark : Mark) (line : ℕ) (ss : List (List ℕ)) (st : State) (e : judgeFrom mark line ss fresh ≡ J.Accepted st) where
   all-passed : Passed mark ss fresh st
   all-passed = passed mark line ss fresh st e
 
-  -- "three numbers a point"
   pub counted : length (pointsFrom mark ss fresh) ≡ numbers * st .points
   counted = omega (arith, passed-counted all-passed)
 
@@ -122,27 +120,27 @@ module _ (mark : Mark) (line : ℕ) (ss : List (List ℕ)) (st : State) (e : jud
   all-counted = omega (arith, counted)
 
   points : Points 0 (pointsFrom mark ss fresh)
-  points = passed-points all-passed (λ z. false-true z)
+  points = passed-points all-passed (λ z. clash z refl)
 
   -- the globe refuses none of the points of an accepted text
   pub unrefused : bufferRefusal (pointsFrom mark ss fresh) ≡ 0
   unrefused = points-accepted points (omega (arith, all-counted, few))
 
   pub measured : measureOf (pointsFrom mark ss fresh) ≡ G.Millimetres (lengthUpTo (pointsFrom mark ss fresh) (count (pointsFrom mark ss fresh)))
-  measured = points-measured points (omega (arith, all-counted, few))
+  measured = accepted-measured _ unrefused
 
 -- ---- the refusals of a text, and what an accepted one is
 
 data JudgedSays : Judged → Type 0 where
   accepted : {st : State} → JudgedSays (J.Accepted st)
-  refused : {n line : ℕ} → OfLine n → 1 ≤ line → JudgedSays (J.Refused n line)
+  refused : {n line : ℕ} → ofLine n ≡ true → 1 ≤ line → JudgedSays (J.Refused n line)
 
 end-says : (line : ℕ) (s : List ℕ) (st : State) → 2 ≤ line → JudgedSays (endOf line s st)
 end-says line [] st h =
     by-test (isGap (st .before))
-    (λ t. rw t (refused {n = ORDER} {line = line - 1} (omega arith) (omega arith)))
+    (λ t. rw t (refused {n = ORDER} {line = line - 1} refl (omega arith)))
     (λ t. rw t accepted)
-end-says line (x ∷ s) st h = refused {n = LINE} {line = line} (omega arith) (omega arith)
+end-says line (x ∷ s) st h = refused {n = LINE} {line = line} refl (omega arith)
 
 on-line-says : {st : State} {fields : List (List ℕ)} {l : Line} {line : ℕ} {j : Judged} → LineSays st fields l → 1 ≤ line → JudgedSays j
     → JudgedSays (onLine line l j)
@@ -152,7 +150,7 @@ on-line-says (Says.point p q y x) h j = j
 on-line-says (Says.gap t u) h j = j
 
 judge-says : (mark : Mark) (line : ℕ) (ss : List (List ℕ)) (st : State) → 2 ≤ line → JudgedSays (judgeFrom mark line ss st)
-judge-says mark line [] st h = refused {n = LINE} {line = line} (omega arith) (omega arith)
+judge-says mark line [] st h = refused {n = LINE} {line = line} refl (omega arith)
 judge-says mark line (s ∷ []) st h = end-says line s st h
 judge-says mark line (s ∷ (t ∷ ss)) st h =
     on-line-says (line-says mark st s (lineOf mark st s) refl) (omega arith)
@@ -171,7 +169,7 @@ pub record Accepted (text : List ℕ) (st : State) : Type 0 where
 data TextSays (text : List ℕ) : Judged → Type 0 where
   too-long : TextSays text (J.Refused TEXT 0)
   bad-header : TextSays text (J.Refused HEADER 1)
-  bad-line : {n line : ℕ} → OfLine n → 1 ≤ line → TextSays text (J.Refused n line)
+  bad-line : {n line : ℕ} → ofLine n ≡ true → 1 ≤ line → TextSays text (J.Refused n line)
   accepted : {st : State} → Accepted text st → TextSays text (J.Accepted st)
 
 the-accepted : {text : List ℕ} {st : State} → TextSays text (J.Accepted st) → Accepted text st
@@ -209,7 +207,7 @@ module _ (text : List ℕ) where
 pub data ReadingSays (text : List ℕ) (room : ℕ) : Reading → Type 0 where
   too-long : ReadingSays text room (R.Refused TEXT 0)
   bad-header : ReadingSays text room (R.Refused HEADER 1)
-  bad-line : {n line : ℕ} → OfLine n → 1 ≤ line → ReadingSays text room (R.Refused n line)
+  bad-line : {n line : ℕ} → ofLine n ≡ true → 1 ≤ line → ReadingSays text room (R.Refused n line)
   too-small : {st : State} → judgedOf text ≡ J.Accepted st → room < numbers * st .points → ReadingSays text room (R.Refused ROOM 0)
   route : {st : State} → judgedOf text ≡ J.Accepted st → numbers * st .points ≤ room
       → ReadingSays text room (R.Route (st .points) (lengthUpTo (pointsOf text) (count (pointsOf text))) (st .target))

@@ -1,11 +1,11 @@
 -- "Prove that two results allowed by one statement are equal": the answer and every number of the buffer equal a definition, so the
--- globe's one law serves here too. The list has an entry for each promise of the function that others can call.
+-- one law serves here too. The list has an entry for each promise of the function that others can call.
 -- Assumes nothing.
 use mathlib.Core.List.{List}
 use Prim.Native.Nat.{ℕ}
 use lib.IntN.{ℤ}
 use lib.ListN.{length}
-use Rattle.globe.specs.Unique.{One, one}
+use Rattle.refusals.specs.One.{One, one}
 use Rattle.route.specs.Route.{readingOf, bufferOf}
 
 pub record Unique : Type 0 where

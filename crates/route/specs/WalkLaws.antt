@@ -10,8 +10,8 @@ use borrow.Author.Tests.{le-leb, lt-leb}
 use lib.IntN.{ℤ, pos}
 use lib.ListN.{set, length, take, drop, getD}
 use lib.Seq.{sets, sets-eq, drop-cons, take-suc, append-snoc, set-at, length-take-le}
-use Rattle.ticks.specs.Choice.{if_then_else_}
-use Rattle.route.specs.declared.Mark.{Mark}
+use Rattle.refusals.specs.Choice.{if_then_else_}
+use Rattle.numbers.specs.declared.Mark.{Mark}
 use Rattle.route.specs.declared.Header.the-variants as H
 use Rattle.route.specs.declared.Reading.the-variants as R
 use Rattle.route.specs.declared.lines.Line.{Line}
@@ -19,9 +19,9 @@ use Rattle.route.specs.declared.lines.Line.the-variants as L
 use Rattle.route.specs.declared.lines.State.{State}
 use Rattle.route.specs.declared.reader.Judged.{Judged}
 use Rattle.route.specs.declared.reader.Judged.the-variants as J
-use Rattle.route.specs.Refusal.{TEXT, HEADER, LINE, ORDER}
-use Rattle.route.specs.Pieces.{LF, split, indexOf}
-use Rattle.route.specs.PieceLaws.{onward, split-cut, split-last, split-some}
+use Rattle.refusals.specs.Refusal.{TEXT, HEADER, LINE, ORDER}
+use Rattle.numbers.specs.Pieces.{LF, split, indexOf}
+use Rattle.numbers.specs.PieceLaws.{onward, split-cut, split-last, split-some}
 use Rattle.route.specs.Line.{isGap, lineOf, fresh, afterOf, numbersOf}
 use Rattle.route.specs.Route.{mostBytes, endOf, onLine, judgeFrom, pointsFrom, headerOf, judgeAfter, judgeLines, judgedOf, pointsOf, bodyOf, readingOf, written}
 
@@ -115,12 +115,6 @@ module _ (text : List ℕ) (room : ℕ) where
 pub sets-append : (vs ws b : List ℤ) (i : ℕ) → sets b i (vs ++ ws) ≡ sets (sets b i vs) (i + length vs) ws
 sets-append [] ws b i = rw add-zero
 sets-append (v ∷ vs) ws b i = rw (add-suc, ← suc-add) (sets-append vs ws (set b i v) (suc i))
-
-pub three-sets : (b : List ℤ) (i : ℕ) (lat lon third : ℤ) → set (set (set b i lat) (i + 1) lon) (i + 2) third ≡ sets b i (lat ∷ (lon ∷ (third ∷ [])))
-three-sets b i lat lon third =
-    let e : i + 1 ≡ suc i = omega arith in
-    let f : i + 2 ≡ suc (suc i) = omega arith in
-    rw (e, f)
 
 pub sets-written : (vs b : List ℤ) → length vs ≤ length b → sets b 0 vs ≡ written vs b
 sets-written vs b h = sets-eq vs b 0 (omega arith) ∙ rw zero-add

@@ -2,26 +2,19 @@
 ghost use mathlib.Core.Path.{_≡_};
 ghost use Prim.Native.Nat.{_*_, _≤_};
 ghost use lib.ListN.{length};
-ghost use Rattle.globe.specs.Buffer.{numbers, mostPoints};
+ghost use Rattle.points.specs.Points.{numbers, mostPoints};
 ghost use Rattle.route.specs.Route.{headerOf, readingOf, bufferOf};
 
 mod lines;
-mod numbers;
-mod pieces;
 mod reader;
-pub mod refusal;
 
-use pieces::LF;
-use pieces::equal;
-use pieces::find;
-use refusal::HEADER;
-use refusal::TEXT;
-
-// The decimal mark that line 1 names.
-pub(crate) enum Mark {
-    Point,
-    Comma,
-}
+use numbers::Mark;
+use numbers::pieces::LF;
+use numbers::pieces::equal;
+use numbers::pieces::find;
+use points::MOST_NUMBERS;
+use refusals::HEADER;
+use refusals::TEXT;
 
 pub(crate) enum Header {
     Names(Mark),
@@ -43,7 +36,7 @@ pub enum Reading {
     Refused(u32, u32),
 }
 
-const MOST_BYTES: usize = 60_000;
+pub const MOST_BYTES: usize = 60_000;
 
 fn read_header(line: &[u8]) -> Header
     ensures { λ r. ⌜ r ≡ headerOf (now (line .entry)) ⌝ }
@@ -75,13 +68,13 @@ fn read_text(text: &[u8], own: &mut [i32], buffer: &mut [i32]) -> Reading
     reader::read_body(&text[e + 1..], mark, own, buffer)
 }
 
-// The route that a text says. Of an accepted one, the buffer has three numbers a point: latitude, longitude, and 1 for the first point and
-// after `g`, else 0. Nothing else in the buffer changes, and nothing at all where the text is refused.
+// The route that a text says. Of an accepted one, the buffer has the points from its start on. Nothing else in the buffer changes, and nothing
+// at all where the text is refused.
 pub fn read(text: &[u8], buffer: &mut [i32]) -> Reading
     ensures answer { λ r. ⌜ r ≡ readingOf (now (text .entry)) (length (now (buffer .entry))) ⌝ }
     ensures left { λ _. ⌜ now (buffer .exit) ≡ bufferOf (now (text .entry)) (now (buffer .entry)) ⌝ }
 {
     // the numbers of the most points, made before anything is judged: docs/DECISIONS.md, "The table is made first"
-    let mut own = [0i32; 3_000];
+    let mut own = [0i32; MOST_NUMBERS];
     read_text(text, &mut own, buffer)
 }

@@ -1,27 +1,22 @@
 // One line after line 1, judged by the lines before it.
 ghost use mathlib.Core.Path.{_≡_};
 ghost use Prim.Native.Nat.{_≤_};
-ghost use Rattle.globe.specs.Buffer.{mostPoints};
-ghost use Rattle.route.specs.Line.{refusalOf, latitudeOf, longitudeOf, isFirst, isPoint, isGap, gapOf, targetOf, pointOf, lineOf, fresh, afterOf, thirdOf};
-use crate::Mark;
+ghost use Rattle.points.specs.Points.{mostPoints};
+ghost use Rattle.route.specs.Line.{refusalOf, isFirst, isPoint, isGap, gapOf, targetOf, pointOf, lineOf, fresh, afterOf, thirdOf};
 use crate::Target;
-use crate::numbers::Number;
-use crate::numbers::degrees;
-use crate::numbers::kilometres;
-use crate::numbers::read_number;
-use crate::pieces::TAB;
-use crate::pieces::find;
-use crate::pieces::has;
-use crate::pieces::is_byte;
-use crate::refusal::LINE;
-use crate::refusal::ORDER;
-use globe::buffer::MOST_POINTS;
-use globe::refusal::POINTS;
+use numbers::Kind;
+use numbers::Mark;
+use numbers::Number;
+use numbers::pieces::TAB;
+use numbers::pieces::find;
+use numbers::pieces::has;
+use numbers::pieces::is_byte;
+use numbers::read;
+use points::MOST_POINTS;
+use refusals::LINE;
+use refusals::ORDER;
+use refusals::POINTS;
 use signed::size64;
-use ticks::is_latitude;
-use ticks::is_longitude;
-use ticks::refusal::LATITUDE;
-use ticks::refusal::LONGITUDE;
 
 // What a line is read as.
 pub(crate) enum Line {
@@ -92,32 +87,6 @@ fn refusal_of(n: Number) -> u32
     }
 }
 
-fn latitude(field: &[u8], mark: Mark) -> Number
-    ensures { λ r. ⌜ r ≡ latitudeOf mark (now (field .entry)) ⌝ }
-{
-    let number = read_number(field, mark, degrees());
-    let Number::Value(ticks) = number else {
-        return number;
-    };
-    if !is_latitude(ticks) {
-        return Number::Refused(LATITUDE);
-    }
-    number
-}
-
-fn longitude(field: &[u8], mark: Mark) -> Number
-    ensures { λ r. ⌜ r ≡ longitudeOf mark (now (field .entry)) ⌝ }
-{
-    let number = read_number(field, mark, degrees());
-    let Number::Value(ticks) = number else {
-        return number;
-    };
-    if !is_longitude(ticks) {
-        return Number::Refused(LONGITUDE);
-    }
-    number
-}
-
 fn gap(kind: &[u8], before: Before) -> Line
     ensures { λ r. ⌜ r ≡ gapOf before (now (kind .entry)) ⌝ }
 {
@@ -139,7 +108,7 @@ fn target(kind: &[u8], field: &[u8], mark: Mark, before: Before) -> Line
     if !is_first(before) {
         return Line::Refused(ORDER);
     }
-    let number = read_number(field, mark, kilometres());
+    let number = read(field, Kind::Target, mark);
     let Number::Value(metres) = number else {
         return Line::Refused(refusal_of(number));
     };
@@ -156,11 +125,11 @@ fn point(kind: &[u8], first: &[u8], second: &[u8], mark: Mark, points: u32) -> L
     if MOST_POINTS <= points as usize {
         return Line::Refused(POINTS);
     }
-    let number = latitude(first, mark);
+    let number = read(first, Kind::Latitude, mark);
     let Number::Value(y) = number else {
         return Line::Refused(refusal_of(number));
     };
-    let number2 = longitude(second, mark);
+    let number2 = read(second, Kind::Longitude, mark);
     let Number::Value(x) = number2 else {
         return Line::Refused(refusal_of(number2));
     };

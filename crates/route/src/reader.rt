@@ -4,13 +4,12 @@ ghost use mathlib.Core.List.{_++_};
 ghost use Prim.Native.Nat.{_+_, _*_, _≤_};
 ghost use lib.ListN.{length, take, drop};
 ghost use lib.Seq.{sets};
-ghost use Rattle.globe.specs.Buffer.{numbers, mostPoints};
+ghost use Rattle.points.specs.Points.{numbers, mostPoints};
 ghost use Rattle.globe.specs.Paper.{lengthPaper};
-ghost use Rattle.route.specs.Pieces.{LF, split};
+ghost use Rattle.numbers.specs.Pieces.{LF, split};
 ghost use Rattle.route.specs.Line.{fresh, numbersOf};
 ghost use Rattle.route.specs.Route.{mostBytes, endOf, judgeFrom, pointsFrom, bodyOf, leftBy};
 ghost use Rattle.route.specs.WalkLaws.{HeldBy};
-use crate::Mark;
 use crate::Reading;
 use crate::lines::Line;
 use crate::lines::State;
@@ -19,14 +18,16 @@ use crate::lines::fresh;
 use crate::lines::is_gap;
 use crate::lines::read_line;
 use crate::lines::third;
-use crate::pieces::LF;
-use crate::pieces::find;
-use crate::refusal::LINE;
-use crate::refusal::ORDER;
-use crate::refusal::ROOM;
 use globe::Length;
-use globe::buffer::NUMBERS;
 use globe::measure;
+use numbers::Mark;
+use numbers::pieces::LF;
+use numbers::pieces::find;
+use points::NUMBERS;
+use points::put;
+use refusals::LINE;
+use refusals::ORDER;
+use refusals::ROOM;
 
 // What the lines leave, or the refusal and its line.
 pub(crate) enum Judged {
@@ -49,20 +50,16 @@ fn ending(rest: &[u8], line: u32, st: State) -> Judged
     Judged::Accepted(st)
 }
 
-// The numbers of a line into the buffer; answers the next place.
-fn put(buffer: &mut [i32], at: usize, st: State, line: Line) -> usize
-    requires { ⌜ at + length (numbersOf st line) ≤ length (now buffer) ⌝ }
-    ensures next { λ r. ⌜ r ≡ at + length (numbersOf st line) ⌝ }
-    ensures written { λ _. ⌜ now (buffer .exit) ≡ sets (now (buffer .entry)) at (numbersOf st line) ⌝ }
+// The numbers of a line into our own buffer, behind those of the points so far.
+fn put_line(own: &mut [i32], st: State, line: Line)
+    requires { ⌜ numbers * st .points + length (numbersOf st line) ≤ length (now own) ⌝ }
+    ensures { λ _. ⌜ now (own .exit) ≡ sets (now (own .entry)) (numbers * st .points) (numbersOf st line) ⌝ }
 {
     let before = st.before;
+    let i = st.points as usize;
     if let Line::Point(latitude, longitude) = line {
-        buffer[at] = latitude;
-        buffer[at + 1] = longitude;
-        buffer[at + 2] = third(before);
-        return at + NUMBERS;
+        put(own, i, latitude, longitude, third(before));
     }
-    at
 }
 
 // Each line is read once: it is judged, and its numbers go into a buffer of our own.
@@ -74,7 +71,6 @@ fn read_lines(text: &[u8], mark: Mark, own: &mut [i32]) -> Judged
 {
     let mut rest = text;
     let mut line: u32 = 2;
-    let mut at: usize = 0;
     let mut st = fresh();
     loop {
         let e = find(rest, LF);
@@ -85,7 +81,7 @@ fn read_lines(text: &[u8], mark: Mark, own: &mut [i32]) -> Judged
         if let Line::Refused(n) = l {
             return Judged::Refused(n, line);
         }
-        at = put(own, at, st, l);
+        put_line(own, st, l);
         st = after(st, l);
         line += 1;
         rest = &rest[e + 1..];

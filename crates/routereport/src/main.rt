@@ -1,4 +1,6 @@
 // Reads a route from standard input and prints its points, length and target, or the refusal and its line.
+use points::MOST_NUMBERS;
+use route::MOST_BYTES;
 use route::Reading;
 use route::Target;
 
@@ -22,8 +24,8 @@ fn goal(t: Target) {
 
 fn main() {
     // one byte more than a route may have, so that a longer one is refused; and room for every route
-    let mut bytes = [0u8; 60_001];
-    let mut buffer = [0i32; 3_000];
+    let mut bytes = [0u8; MOST_BYTES + 1];
+    let mut buffer = [0i32; MOST_NUMBERS];
     let n = io::read_full(0, &mut bytes);
     let reading = route::read(&bytes[..n], &mut buffer);
     match reading {

@@ -6,12 +6,13 @@ use Prim.Native.Nat.{ℕ}
 use lib.Ieee.{Float}
 use lib.IntN.{ℤ}
 use lib.ListN.{length}
+use Rattle.refusals.specs.One.{One, one}
+use Rattle.numbers.specs.Unique as N
 use Rattle.globe.specs.Angle.{longSineOf, shortSineOf}
 use Rattle.globe.specs.Sheet.{cylindricalOf, sinusoidalOf, cylindricalBackOf, sinusoidalBackOf}
 use Rattle.globe.specs.Leg.{legOf}
 use Rattle.globe.specs.Paper.{sinePaper, placePaper, pointPaper, lengthPaper}
 use Rattle.globe.specs.Unique as G
-use Rattle.globe.specs.Unique.{One, one}
 use Rattle.route.specs.Paper.{readingPaper}
 use Rattle.route.specs.Route.{readingOf, bufferOf}
 use Rattle.route.specs.Unique as R
@@ -20,6 +21,7 @@ use Rattle.pen.specs.Unique as P
 use Rattle.senruhobi.specs.Doors.{sineOut, placeOut, pointOut, lengthOut, readingOut, stepOut, penIn, windowIn}
 
 pub record Unique : Type 0 where
+  pub numbers : N.Unique
   pub globe : G.Unique
   pub route : R.Unique
   pub pen : P.Unique
@@ -37,6 +39,7 @@ pub record Unique : Type 0 where
 
 pub unique : Unique
 unique = record {
+  numbers = N.unique;
   globe = G.unique;
   route = R.unique;
   pen = P.unique;

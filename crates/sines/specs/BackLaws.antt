@@ -11,7 +11,8 @@ use Rattle.sines.specs.Table.{unit, entry}
 use Rattle.sines.specs.Rules.{rows, growth, rising}
 use Rattle.sines.specs.Sine.{step, quarter, sineBy, longSine, shortSine, between}
 use Rattle.sines.specs.SineLaws.{a-step, in-row, to-next, top, sineBy-le, longSine-lt, longSine-one, longSine-zero}
-use Rattle.sines.specs.Greatest.{found, IsGreatest, IsFound, greatest-is, greatest-meets, found-meets, clash}
+use Rattle.refusals.specs.Tests.{clash}
+use Rattle.sines.specs.Greatest.{found, IsGreatest, IsFound, greatest-is, greatest-meets, found-meets}
 use Rattle.sines.specs.Back.{LastRow, LastAngle, greatestBy, greatestAngle, angleOf, IsAngleOf}
 
 -- ---- the last row

@@ -7,6 +7,7 @@ use mathlib.Core.Option.{Option, none, some, Option·getD}
 use Prim.Native.Nat.{ℕ, zero, suc, _≤_, _<_}
 use native.Mathlib.Nat.{le-refl, eq-or-lt-of-le, le-of-suc-le-suc}
 use native.Mathlib.Omega.{arith}
+use Rattle.refusals.specs.Tests.{clash}
 
 -- the greatest number up to n at which the test p holds, or none
 unfoldable pub found : (ℕ → Bool) → ℕ → Option ℕ
@@ -28,9 +29,6 @@ IsFound p n none = (v : ℕ) → v ≤ n → p v ≡ false
 IsFound p n (some u) = IsGreatest p n u
 
 -- ---- laws
-
-pub clash : {A : Type 0} {t : Bool} → t ≡ true → t ≡ false → A
-clash a b = let z : _≡_ {A = ℕ} 0 1 = cc in absurd (omega arith)
 
 module _ (p : ℕ → Bool) where
   -- one number more, at which the test fails

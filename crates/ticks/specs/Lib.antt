@@ -1,4 +1,2 @@
-pub mod Refusal
-pub mod Choice
 pub mod Ticks
 pub mod TickLaws

@@ -1,48 +1,32 @@
 -- What the ranges, the turn and the refusals of a point say, as facts that `omega` reads.
 -- Assumes nothing.
-use mathlib.Core.Path.{_≡_, refl, sym, ap, _∙_}
-use mathlib.Core.Bool.{Bool, true, false, not, _&&_}
-use Prim.Native.Nat.{ℕ, zero, suc, _+_, _*_, _≤_, _<_}
+use mathlib.Core.Path.{_≡_, refl}
+use mathlib.Core.Bool.{Bool, true, false}
+use Prim.Native.Nat.{ℕ, _+_, _*_, _≤_, _<_}
 use native.Mathlib.Nat.{mul-le-mul}
 use native.Mathlib.Omega.{arith}
-use borrow.Author.Tests.{not-true, not-false}
 use lib.IntN.{ℤ, pos, negℤ, natAbs, _+ℤ_, _-ℤ_, _*ℤ_}
 use lib.Signed.{ltZ, leZ}
 use mir.Syntax.{w32, w64}
 use mir.Val.{SFits}
+use Rattle.refusals.specs.Refusal.{LATITUDE, LONGITUDE, MERIDIAN}
+use Rattle.refusals.specs.Choice.{if_then_else_}
+use Rattle.refusals.specs.Tests.{and-true, true-and, unless-none}
+use Rattle.sines.specs.Sine.{quarter, shortUnit}
 use Rattle.signed.specs.Sides.{above, below, one-side, same, add-sides, sub-sides, mul-above, mul-below, size-sides}
 use Rattle.signed.specs.Tests.{ltZ-true, ltZ-false, leZ-true, leZ-false, lt-ltZ, le-leZ}
 use Rattle.signed.specs.Machine.{fits-of}
-use Rattle.ticks.specs.Refusal.{LATITUDE, LONGITUDE, MERIDIAN}
-use Rattle.ticks.specs.Choice.{unless, if_then_else_, firstOf}
-use Rattle.ticks.specs.Ticks.{north, halfTurn, turn, isLatitude, isLongitude, turned, offsetOf, pointRefusal, sheetRefusal}
-
--- ---- tests
-
--- both halves of a test by &&, and back
-pub and-true : (a b : Bool) → a && b ≡ true → (a ≡ true) × (b ≡ true)
-and-true true b e = (refl, e)
-and-true false b e = let z : _≡_ {A = ℕ} 0 1 = cc in absurd (omega arith)
-
-pub true-and : {a b : Bool} → a ≡ true → b ≡ true → a && b ≡ true
-true-and p q = rw (p, q)
-
--- what a callee's test tells after `if !f(y) { return .. }`: y is what the machine read, x the number itself
-pub passed : (f : ℤ → Bool) {x y : ℤ} {r : Bool} → y ≡ x → r ≡ f y → not r ≡ false → f x ≡ true
-passed f e h t = sym (ap f e) ∙ sym h ∙ not-false _ t
-
-pub failed : (f : ℤ → Bool) {x y : ℤ} {r : Bool} → y ≡ x → r ≡ f y → not r ≡ true → f x ≡ false
-failed f e h t = sym (ap f e) ∙ sym h ∙ not-true _ t
+use Rattle.ticks.specs.Ticks.{north, half, halfTurn, fullTurn, turn, isLatitude, isLongitude, turned, offsetOf, pointRefusal, sheetRefusal}
 
 -- ---- the ranges
 
 pub record Latitude (z : ℤ) : Type 0 where
-  pub north : above z ≤ 900_000_000
-  pub south : below z ≤ 900_000_000
+  pub north : above z ≤ quarter
+  pub south : below z ≤ quarter
 
 pub record Longitude (z : ℤ) : Type 0 where
-  pub east : above z < 1_800_000_000
-  pub west : below z ≤ 1_800_000_000
+  pub east : above z < half
+  pub west : below z ≤ half
 
 pub latitude : (z : ℤ) → isLatitude z ≡ true → Latitude z
 latitude z e =
@@ -69,10 +53,10 @@ is-longitude z h =
     true-and (le-leZ (negℤ halfTurn) z (omega arith)) (lt-ltZ z halfTurn (omega arith))
 
 -- by its size
-pub latitude-size : (z : ℤ) → isLatitude z ≡ true → natAbs z ≤ 900_000_000
+pub latitude-size : (z : ℤ) → isLatitude z ≡ true → natAbs z ≤ quarter
 latitude-size z e = omega (arith, latitude z e, size-sides z, one-side z)
 
-pub size-latitude : (z : ℤ) → natAbs z ≤ 900_000_000 → isLatitude z ≡ true
+pub size-latitude : (z : ℤ) → natAbs z ≤ quarter → isLatitude z ≡ true
 size-latitude z h = let s = size-sides z in is-latitude z (omega arith)
 
 pub latitude-fits : {z : ℤ} → isLatitude z ≡ true → SFits w32 z
@@ -87,7 +71,7 @@ longitude-fits {z} e = let h = longitude z e in fits-of w32 z (omega arith) (ome
 record Turned (d r : ℤ) : Type 0 where
   k : ℕ
   few : k ≤ 2
-  apart : above r + below d + 3_600_000_000 ≡ above d + below r + k * 3_600_000_000
+  apart : above r + below d + fullTurn ≡ above d + below r + k * fullTurn
 
 turned-how : (d : ℤ) → Turned d (turned d)
 turned-how d = go (ltZ d (negℤ halfTurn)) (leZ halfTurn d)
@@ -97,7 +81,7 @@ turned-how d = go (ltZ d (negℤ halfTurn)) (leZ halfTurn d)
     go false true = record { k = 0; few = omega arith; apart = omega (arith, sub-sides d turn) }
     go false false = record { k = 1; few = omega arith; apart = omega arith }
 
-turned-longitude : (d : ℤ) → above d < 5_400_000_000 → below d ≤ 5_400_000_000 → Longitude (turned d)
+turned-longitude : (d : ℤ) → above d < fullTurn + half → below d ≤ fullTurn + half → Longitude (turned d)
 turned-longitude d p q = go (ltZ d (negℤ halfTurn)) (leZ halfTurn d) refl refl
   where
     go : (a b : Bool) → ltZ d (negℤ halfTurn) ≡ a → leZ halfTurn d ≡ b → Longitude (if a then d +ℤ turn else (if b then d -ℤ turn else d))
@@ -163,20 +147,12 @@ no-offset m q =
     same (offsetOf m m) (pos 0) (omega (arith, sub-sides m m, turned-how (m -ℤ m) .apart, turned-how (m -ℤ m) .few))
 
 -- offset × width fits 64 bits
-pub product-fits : (d : ℤ) (w : ℕ) → Longitude d → w ≤ 1_000_000_000 → SFits w64 (d *ℤ pos w)
+pub product-fits : (d : ℤ) (w : ℕ) → Longitude d → w ≤ shortUnit → SFits w64 (d *ℤ pos w)
 product-fits d w h k =
-    let e : above d ≤ 1_800_000_000 = omega arith in
+    let e : above d ≤ half = omega arith in
     fits-of w64 (d *ℤ pos w) (omega (arith, mul-above d w, mul-le-mul e k)) (omega (arith, mul-below d w, mul-le-mul (h .west) k))
 
 -- ---- what nothing refuses
-
-pub unless-none : (t : Bool) (r v : ℕ) → 0 < r → unless t r v ≡ 0 → (t ≡ true) × (v ≡ 0)
-unless-none true r v h e = (refl, e)
-unless-none false r v h e = absurd (omega arith)
-
-pub first-none : (a b : ℕ) → firstOf a b ≡ 0 → (a ≡ 0) × (b ≡ 0)
-first-none zero b e = (refl, e)
-first-none (suc a) b e = absurd (omega arith)
 
 pub point-accepted : (lat lon : ℤ) → pointRefusal lat lon ≡ 0 → (isLatitude lat ≡ true) × (isLongitude lon ≡ true)
 unfolding pointRefusal

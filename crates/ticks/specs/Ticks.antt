@@ -5,14 +5,17 @@ use mathlib.Core.Bool.{Bool, _&&_}
 use lib.IntN.{ℤ, pos, negℤ, _+ℤ_, _-ℤ_}
 use lib.Signed.{ltZ, leZ}
 use Rattle.sines.specs.Sine.{quarter}
-use Rattle.ticks.specs.Refusal.{LATITUDE, LONGITUDE, MERIDIAN}
-use Rattle.ticks.specs.Choice.{unless, if_then_else_}
+use Rattle.refusals.specs.Refusal.{LATITUDE, LONGITUDE, MERIDIAN}
+use Rattle.refusals.specs.Choice.{unless, if_then_else_}
 
 abbrev pub north : ℤ
 north = pos quarter
 
+abbrev pub half : ℕ
+half = 1_800_000_000
+
 abbrev pub halfTurn : ℤ
-halfTurn = pos 1_800_000_000
+halfTurn = pos half
 
 abbrev pub fullTurn : ℕ
 fullTurn = 3_600_000_000

@@ -1,22 +1,20 @@
 // Angles in ticks: their ranges, the turn that brings a longitude into its own, and what refuses a point.
 ghost use mathlib.Core.Path.{_≡_};
 ghost use Rattle.ticks.specs.Ticks.{isLatitude, isLongitude, turned, offsetOf, pointRefusal, sheetRefusal};
+use refusals::LATITUDE;
+use refusals::LONGITUDE;
+use refusals::MERIDIAN;
 
-pub mod refusal;
+pub const NORTH: i64 = 900_000_000;
 
-use crate::refusal::LATITUDE;
-use crate::refusal::LONGITUDE;
-use crate::refusal::MERIDIAN;
-
-const SOUTH: i64 = -900_000_000;
-
-const NORTH: i64 = 900_000_000;
-
-const WEST: i64 = -1_800_000_000;
+const SOUTH: i64 = -NORTH;
 
 const EAST: i64 = 1_800_000_000;
 
-const TURN: i64 = 3_600_000_000;
+const WEST: i64 = -EAST;
+
+// A full turn.
+pub const TURN: i64 = 3_600_000_000;
 
 pub fn is_latitude(z: i64) -> bool
     ensures { λ r. ⌜ r ≡ isLatitude z ⌝ }

@@ -6,7 +6,7 @@ use Rattle.globe.proofs.cylindrical.Statement.{statement}
 use Rattle.globe.proofs.cylindrical.Tie as tie
 
 table-of-sines-requires : tie.Need-table-of-sines-requires
-table-of-sines-requires c κs = search needs
+table-of-sines-requires c κs = tt
 
 cylindrical-requires : tie.Need-cylindrical-requires
 cylindrical-requires c κs = search needs

@@ -6,7 +6,7 @@ use Rattle.globe.proofs.cylindrical_back.Statement.{statement}
 use Rattle.globe.proofs.cylindrical_back.Tie as tie
 
 table-of-sines-requires : tie.Need-table-of-sines-requires
-table-of-sines-requires c κs = search needs
+table-of-sines-requires c κs = tt
 
 cylindrical-back-requires : tie.Need-cylindrical-back-requires
 cylindrical-back-requires c κs = search needs

@@ -6,7 +6,7 @@ use Rattle.globe.proofs.leg.Statement.{statement}
 use Rattle.globe.proofs.leg.Tie as tie
 
 table-of-sines-requires : tie.Need-table-of-sines-requires
-table-of-sines-requires c κs = search needs
+table-of-sines-requires c κs = tt
 
 leg-requires : tie.Need-leg-requires
 leg-requires c κs = search needs

@@ -6,7 +6,7 @@ use Rattle.globe.proofs.long_sine.Statement.{statement}
 use Rattle.globe.proofs.long_sine.Tie as tie
 
 table-of-sines-requires : tie.Need-table-of-sines-requires
-table-of-sines-requires c κs = search needs
+table-of-sines-requires c κs = tt
 
 long-sine-requires : tie.Need-long-sine-requires
 long-sine-requires c κs = search needs

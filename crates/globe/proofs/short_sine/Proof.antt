@@ -6,7 +6,7 @@ use Rattle.globe.proofs.short_sine.Statement.{statement}
 use Rattle.globe.proofs.short_sine.Tie as tie
 
 table-of-sines-requires : tie.Need-table-of-sines-requires
-table-of-sines-requires c κs = search needs
+table-of-sines-requires c κs = tt
 
 short-sine-requires : tie.Need-short-sine-requires
 short-sine-requires c κs = search needs

@@ -6,7 +6,7 @@ use Rattle.globe.proofs.sinusoidal.Statement.{statement}
 use Rattle.globe.proofs.sinusoidal.Tie as tie
 
 table-of-sines-requires : tie.Need-table-of-sines-requires
-table-of-sines-requires c κs = search needs
+table-of-sines-requires c κs = tt
 
 sinusoidal-requires : tie.Need-sinusoidal-requires
 sinusoidal-requires c κs = search needs

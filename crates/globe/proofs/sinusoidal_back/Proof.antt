@@ -6,7 +6,7 @@ use Rattle.globe.proofs.sinusoidal_back.Statement.{statement}
 use Rattle.globe.proofs.sinusoidal_back.Tie as tie
 
 table-of-sines-requires : tie.Need-table-of-sines-requires
-table-of-sines-requires c κs = search needs
+table-of-sines-requires c κs = tt
 
 sinusoidal-back-requires : tie.Need-sinusoidal-back-requires
 sinusoidal-back-requires c κs = search needs

@@ -2,8 +2,8 @@
 -- Assumes nothing.
 use mathlib.Core.Path.{_≡_, sym, _∙_}
 use mathlib.Core.Bool.{false}
-use borrow.Author.Needs.{needs}
-use Rattle.route.specs.Pieces.{same}
+use native.Mathlib.Omega.{arith}
+use Rattle.numbers.specs.Pieces.{same}
 use Rattle.route.specs.Route.{routePoint, headerOf}
 use Rattle.route.proofs.read_header.Statement.{statement}
 use Rattle.route.proofs.read_header.Tie as tie
@@ -12,20 +12,20 @@ not-point : (c : tie.Else1) → same (c .before .before .before .before .args .l
 not-point c = sym (c .before .equal .ensures) ∙ c .if1 .left
 
 slice-aggregate-equal : tie.Need-slice-aggregate-equal
-slice-aggregate-equal c = search needs
+slice-aggregate-equal c = omega arith
 
 equal-requires : tie.Need-equal-requires
-equal-requires c κs = search needs
+equal-requires c κs = tt
 
 returns : tie.Need-returns
 unfolding headerOf
 returns c = rw (sym (c .before .equal .ensures) ∙ c .if1 .taken)
 
 slice-aggregate-equal-2 : tie.Need-slice-aggregate-equal-2
-slice-aggregate-equal-2 c = search needs
+slice-aggregate-equal-2 c = omega arith
 
 equal-requires-2 : tie.Need-equal-requires-2
-equal-requires-2 c κs = search needs
+equal-requires-2 c κs = tt
 
 returns-2 : tie.Need-returns-2
 unfolding headerOf

@@ -22,7 +22,7 @@ returns c =
     (sym e, sym (refusal-leaves (s .args .text .now) (s .args .buffer .now) e))
 
 find-requires : tie.Need-find-requires
-find-requires c κs = search needs
+find-requires c κs = tt
 
 returns-2 : tie.Need-returns-2
 returns-2 c =
@@ -35,7 +35,7 @@ slice-aggregate-read-header : tie.Need-slice-aggregate-read-header
 slice-aggregate-read-header c = sym (length-take-le _ _ (c .before .before .find .ensures .1))
 
 read-header-requires : tie.Need-read-header-requires
-read-header-requires c κs = search needs
+read-header-requires c κs = tt
 
 enum-known-mark : tie.Need-enum-known-mark
 enum-known-mark c = search needs
@@ -52,25 +52,25 @@ returns-3 c =
     (sym e, sym (refusal-leaves (s .args .text .now) (s .args .buffer .now) e))
 
 add-read-body : tie.Need-add-read-body
-add-read-body c = search needs
+add-read-body c = omega arith
 
 sub-read-body : tie.Need-sub-read-body
-sub-read-body c = search needs
+sub-read-body c = omega arith
 
 part-read-body-start : tie.Need-part-read-body-start
-part-read-body-start c = search needs
+part-read-body-start c = omega arith
 
 part-read-body-end : tie.Need-part-read-body-end
-part-read-body-end c = search needs
+part-read-body-end c = omega arith
 
 read-body-requires : tie.Need-read-body-requires
 read-body-requires c κs = search needs
 
 same-length : tie.Need-same-length
-same-length c = search needs
+same-length c = omega arith
 
 same-length-2 : tie.Need-same-length-2
-same-length-2 c = search needs
+same-length-2 c = omega arith
 
 returns-4 : tie.Need-returns-4
 unfolding bufferOf

@@ -1,6 +1,5 @@
 -- `senruhobi::senruhobi_cylindrical_back` meets its contract.
 -- Assumes nothing.
-use borrow.Author.Needs.{needs}
 use mathlib.Core.Path.{ap, _∙_}
 use mir.Facts.{toZ-ofZ}
 use Rattle.globe.specs.declared.Point.{Point}
@@ -10,10 +9,10 @@ use Rattle.senruhobi.proofs.senruhobi_cylindrical_back.Statement.{state
 use Rattle.senruhobi.proofs.senruhobi_cylindrical_back.Tie as tie
 
 cylindrical-back-requires : tie.Need-cylindrical-back-requires
-cylindrical-back-requires c κs = search needs
+cylindrical-back-requires c κs = tt
 
 point-requires : tie.Need-point-requires
-point-requires c κs = search needs
+point-requires c κs = tt
 
 returns : tie.Need-returns
 returns c =

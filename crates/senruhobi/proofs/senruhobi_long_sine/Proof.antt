@@ -1,6 +1,5 @@
 -- `senruhobi::senruhobi_long_sine` meets its contract.
 -- Assumes nothing.
-use borrow.Author.Needs.{needs}
 use mathlib.Core.Path.{ap, _∙_}
 use mir.Facts.{toZ-ofZ}
 use Rattle.globe.specs.declared.Sine.{Sine}
@@ -10,10 +9,10 @@ use Rattle.senruhobi.proofs.senruhobi_long_sine.Statement.{statement}
 use Rattle.senruhobi.proofs.senruhobi_long_sine.Tie as tie
 
 long-sine-requires : tie.Need-long-sine-requires
-long-sine-requires c κs = search needs
+long-sine-requires c κs = tt
 
 sine-requires : tie.Need-sine-requires
-sine-requires c κs = search needs
+sine-requires c κs = tt
 
 returns : tie.Need-returns
 returns c =

@@ -1,6 +1,5 @@
 -- `senruhobi::senruhobi_pen_step` meets its contract.
 -- Assumes nothing.
-use borrow.Author.Needs.{needs}
 use mathlib.Core.Path.{_≡_, refl, ap, _∙_}
 use mathlib.Core.Bool.{not}
 use Prim.Native.Nat.{ℕ, zero, suc}
@@ -13,10 +12,10 @@ use Rattle.senruhobi.proofs.senruhobi_pen_step.Statement.{statement}
 use Rattle.senruhobi.proofs.senruhobi_pen_step.Tie as tie
 
 step-requires : tie.Need-step-requires
-step-requires c κs = search needs
+step-requires c κs = tt
 
 step-requires-2 : tie.Need-step-requires-2
-step-requires-2 c κs = search needs
+step-requires-2 c κs = tt
 
 -- 0 is up, any other number down
 pen-in : (n : ℕ) → record { down = not (eqb n 0) } ≡ penIn n

@@ -1,6 +1,6 @@
 -- `senruhobi::senruhobi_read_route` meets its contract.
 -- Assumes nothing.
-use borrow.Author.Needs.{needs}
+use native.Mathlib.Omega.{arith}
 use mathlib.Core.Path.{ap, _∙_}
 use Rattle.route.specs.declared.Reading.{Reading}
 use Rattle.route.specs.Paper.{readingPaper}
@@ -9,13 +9,13 @@ use Rattle.senruhobi.proofs.senruhobi_read_route.Statement.{statement}
 use Rattle.senruhobi.proofs.senruhobi_read_route.Tie as tie
 
 read-requires : tie.Need-read-requires
-read-requires c κs = search needs
+read-requires c κs = tt
 
 reading-requires : tie.Need-reading-requires
-reading-requires c κs = search needs
+reading-requires c κs = tt
 
 same-length : tie.Need-same-length
-same-length c = search needs
+same-length c = omega arith
 
 returns : tie.Need-returns
 returns c =

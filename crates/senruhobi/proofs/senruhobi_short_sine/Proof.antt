@@ -1,6 +1,5 @@
 -- `senruhobi::senruhobi_short_sine` meets its contract.
 -- Assumes nothing.
-use borrow.Author.Needs.{needs}
 use mathlib.Core.Path.{ap, _∙_}
 use mir.Facts.{toZ-ofZ}
 use Rattle.globe.specs.declared.Sine.{Sine}
@@ -10,10 +9,10 @@ use Rattle.senruhobi.proofs.senruhobi_short_sine.Statement.{statement}
 use Rattle.senruhobi.proofs.senruhobi_short_sine.Tie as tie
 
 short-sine-requires : tie.Need-short-sine-requires
-short-sine-requires c κs = search needs
+short-sine-requires c κs = tt
 
 sine-requires : tie.Need-sine-requires
-sine-requires c κs = search needs
+sine-requires c κs = tt
 
 returns : tie.Need-returns
 returns c =

@@ -1,6 +1,5 @@
 -- `senruhobi::senruhobi_sinusoidal` meets its contract.
 -- Assumes nothing.
-use borrow.Author.Needs.{needs}
 use mathlib.Core.Path.{ap, _∙_}
 use mir.Facts.{toZ-ofZ}
 use Rattle.globe.specs.declared.Place.{Place}
@@ -10,10 +9,10 @@ use Rattle.senruhobi.proofs.senruhobi_sinusoidal.Statement.{statement}
 use Rattle.senruhobi.proofs.senruhobi_sinusoidal.Tie as tie
 
 sinusoidal-requires : tie.Need-sinusoidal-requires
-sinusoidal-requires c κs = search needs
+sinusoidal-requires c κs = tt
 
 place-requires : tie.Need-place-requires
-place-requires c κs = search needs
+place-requires c κs = tt
 
 returns : tie.Need-returns
 returns c =

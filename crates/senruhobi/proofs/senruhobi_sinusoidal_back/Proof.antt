@@ -1,6 +1,5 @@
 -- `senruhobi::senruhobi_sinusoidal_back` meets its contract.
 -- Assumes nothing.
-use borrow.Author.Needs.{needs}
 use mathlib.Core.Path.{ap, _∙_}
 use mir.Facts.{toZ-ofZ}
 use Rattle.globe.specs.declared.Point.{Point}
@@ -10,10 +9,10 @@ use Rattle.senruhobi.proofs.senruhobi_sinusoidal_back.Statement.{statem
 use Rattle.senruhobi.proofs.senruhobi_sinusoidal_back.Tie as tie
 
 sinusoidal-back-requires : tie.Need-sinusoidal-back-requires
-sinusoidal-back-requires c κs = search needs
+sinusoidal-back-requires c κs = tt
 
 point-requires : tie.Need-point-requires
-point-requires c κs = search needs
+point-requires c κs = tt
 
 returns : tie.Need-returns
 returns c =

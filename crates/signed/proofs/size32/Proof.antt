@@ -1,5 +1,4 @@
 -- `signed::size32` meets its contract. Assumes nothing.
-use borrow.Author.Needs.{needs}
 use native.Mathlib.Omega.{arith}
 use mathlib.Core.Path.{_≡_}
 use lib.IntN.{natAbs}
@@ -13,7 +12,7 @@ cast-size64 : tie.Need-cast-size64
 cast-size64 c = search signed
 
 size64-requires : tie.Need-size64-requires
-size64-requires c κs = search needs
+size64-requires c κs = tt
 
 size-at : (c : tie.After-size64) → c .size64 .result ≡ natAbs (c .before .args .z)
 size-at c = rw (at64 (c .before .fits .z)) at (c .size64 .ensures)

@@ -1,6 +1,5 @@
 -- `ticks::offset` meets its contract.
 -- Assumes nothing.
-use borrow.Author.Needs.{needs}
 use mir.Syntax.{w64}
 use mir.Facts.{toZ-ofZ}
 use Rattle.signed.specs.Machine.{signed, at64, kept, sub-fits}
@@ -18,7 +17,7 @@ sub-into-turn : tie.Need-sub-into-turn
 sub-into-turn c = rw (at64 (c .fits .longitude), at64 (c .fits .meridian)) (sub-fits (c .fits .longitude) (c .fits .meridian))
 
 into-turn-requires : tie.Need-into-turn-requires
-into-turn-requires c κs = search needs
+into-turn-requires c κs = tt
 
 returns : tie.Need-returns
 unfolding offsetOf

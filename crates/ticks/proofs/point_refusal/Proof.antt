@@ -1,11 +1,10 @@
 -- `ticks::point_refusal` meets its contract: each way out is the test that led to it.
 -- Assumes nothing.
-use borrow.Author.Needs.{needs}
 use mathlib.Core.Path.{_≡_}
 use mathlib.Core.Bool.{true}
 use Rattle.signed.specs.Machine.{signed, at64}
 use Rattle.ticks.specs.Ticks.{isLatitude, isLongitude, pointRefusal}
-use Rattle.ticks.specs.TickLaws.{passed, failed}
+use Rattle.refusals.specs.Tests.{passed, failed}
 use Rattle.ticks.proofs.point_refusal.Statement.{statement}
 use Rattle.ticks.proofs.point_refusal.Tie as tie
 
@@ -16,7 +15,7 @@ cast-is-latitude : tie.Need-cast-is-latitude
 cast-is-latitude c = search signed
 
 is-latitude-requires : tie.Need-is-latitude-requires
-is-latitude-requires c κs = search needs
+is-latitude-requires c κs = tt
 
 returns : tie.Need-returns
 unfolding pointRefusal
@@ -26,7 +25,7 @@ cast-is-longitude : tie.Need-cast-is-longitude
 cast-is-longitude c = search signed
 
 is-longitude-requires : tie.Need-is-longitude-requires
-is-longitude-requires c κs = search needs
+is-longitude-requires c κs = tt
 
 returns-2 : tie.Need-returns-2
 unfolding pointRefusal

@@ -1,10 +1,9 @@
 -- `ticks::sheet_refusal` meets its contract.
 -- Assumes nothing.
-use borrow.Author.Needs.{needs}
 use mir.Facts.{toZ-ofZ}
 use Rattle.signed.specs.Machine.{signed, at64}
 use Rattle.ticks.specs.Ticks.{isLongitude, sheetRefusal}
-use Rattle.ticks.specs.TickLaws.{passed, failed}
+use Rattle.refusals.specs.Tests.{passed, failed}
 use Rattle.ticks.proofs.sheet_refusal.Statement.{statement}
 use Rattle.ticks.proofs.sheet_refusal.Tie as tie
 
@@ -12,14 +11,14 @@ cast-is-longitude : tie.Need-cast-is-longitude
 cast-is-longitude c = search signed
 
 is-longitude-requires : tie.Need-is-longitude-requires
-is-longitude-requires c κs = search needs
+is-longitude-requires c κs = tt
 
 returns : tie.Need-returns
 unfolding sheetRefusal
 returns c = rw (failed isLongitude (at64 (c .before .before .fits .meridian)) (c .before .is-longitude .ensures) (c .if1 .taken))
 
 point-refusal-requires : tie.Need-point-refusal-requires
-point-refusal-requires c κs = search needs
+point-refusal-requires c κs = tt
 
 returns-2 : tie.Need-returns-2
 unfolding sheetRefusal

@@ -5,8 +5,10 @@ use Prim.Native.Nat.{suc, _-_, _≤_}
 use native.Mathlib.Numerals.{add-one}
 use native.Mathlib.Omega.{arith}
 use borrow.Author.Needs.{needs}
-use Rattle.globe.specs.Buffer.{count, lengthUpTo}
-use Rattle.globe.specs.BufferLaws.{accepted, length-longest}
+use Rattle.points.specs.Points.{count}
+use Rattle.points.specs.PointLaws.{accepted}
+use Rattle.globe.specs.Measure.{lengthUpTo}
+use Rattle.globe.specs.MeasureLaws.{length-longest}
 use Rattle.globe.proofs.buffer.length_of.Statement.{statement}
 use Rattle.globe.proofs.buffer.length_of.Tie as tie
 
@@ -16,9 +18,12 @@ Inv-loop t points n sum₀ i₀ sum i = (i ≤ n) × (sum ≡ lengthUpTo points 
 abbrev μ-loop : tie.MeasureT-loop
 μ-loop t points n sum₀ i₀ sum i = n - i
 
+count-requires : tie.Need-count-requires Inv-loop μ-loop
+count-requires c κs = tt
+
 loop-holds : tie.Need-loop-holds Inv-loop μ-loop
 unfolding lengthUpTo
-loop-holds c = search needs
+loop-holds c = omega arith
 
 leg-into-requires : tie.Need-leg-into-requires Inv-loop μ-loop
 leg-into-requires c κs = search needs
@@ -27,21 +32,25 @@ add-sum : tie.Need-add-sum Inv-loop μ-loop
 unfolding lengthUpTo
 add-sum c =
     let at = c .before .before in
-    let b = at .before .args .points .now in
-    omega (arith, length-longest b (suc (at .loop .i)), accepted b (at .before .pre .1))
+    let s = at .before .before in
+    let b = s .args .points .now in
+    omega (arith, length-longest b (suc (at .loop .i)), accepted b (s .pre .1), at .before .count .ensures)
 
 add-i : tie.Need-add-i Inv-loop μ-loop
-add-i c = search needs
+add-i c = omega arith
 
 loop-less : tie.Need-loop-less Inv-loop μ-loop
-loop-less c = search needs
+loop-less c = omega arith
 
 loop-again : tie.Need-loop-again Inv-loop μ-loop
 unfolding lengthUpTo
-loop-again c = (search needs, rw add-one (cc))
+loop-again c = (omega arith, rw (add-one, c .leg-into .ensures, c .before .before .loop .inv .1))
 
 returns : tie.Need-returns Inv-loop μ-loop
-returns c = let s = c .before .before in let e : c .before .loop .i ≡ count (s .args .points .now) = omega arith in cc
+returns c =
+    let n = c .before .before in
+    let e : c .before .loop .i ≡ count (n .before .args .points .now) = omega (arith, n .count .ensures) in
+    rw (c .before .loop .inv .1, e)
 
 pub length-of-spec : {M : Type 1} → statement M
 length-of-spec =
@@ -49,6 +58,7 @@ length-of-spec =
     (tie.spec
     Inv-loop
     μ-loop
+    count-requires
     loop-holds
     leg-into-requires
     add-sum

@@ -1,13 +1,13 @@
 -- `globe::buffer::measure` meets its contract: what refuses the buffer is sent back, and one that is accepted is measured.
 -- Assumes nothing.
 use borrow.Author.Needs.{needs}
-use Rattle.globe.specs.Buffer.{measureOf}
+use Rattle.globe.specs.Measure.{measureOf}
 use Rattle.globe.specs.LegLaws.{refused}
 use Rattle.globe.proofs.buffer.measure.Statement.{statement}
 use Rattle.globe.proofs.buffer.measure.Tie as tie
 
 buffer-refusal-requires : tie.Need-buffer-refusal-requires
-buffer-refusal-requires c κs = search needs
+buffer-refusal-requires c κs = tt
 
 returns : tie.Need-returns
 unfolding measureOf

@@ -21,7 +21,7 @@ scaled-requires : tie.Need-scaled-requires
 scaled-requires c κs = (c .before .before .pre .1 .0, rw (c .short-sine-of2 .ensures) (square-top (c .before .before .pre .1 .1 .1)))
 
 returns : tie.Need-returns
-returns c = cc
+returns c = rw (c .scaled .ensures, c .before .short-sine-of2 .ensures, c .before .before .short-sine-of .ensures)
 
 add-result : tie.Need-add-result
 add-result c =

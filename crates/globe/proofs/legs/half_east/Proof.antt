@@ -1,5 +1,4 @@
 -- `globe::legs::half_east` meets its contract. Assumes nothing.
-use borrow.Author.Needs.{needs}
 use mathlib.Core.Path.{_≡_}
 use native.Mathlib.Omega.{arith}
 use lib.IntN.{natAbs, _-ℤ_}
@@ -20,7 +19,7 @@ sub-size64 c =
     rw (at64 (f .longitude), at64 (f .longitude2)) (sub-fits (f .longitude) (f .longitude2))
 
 size64-requires : tie.Need-size64-requires
-size64-requires c κs = search needs
+size64-requires c κs = tt
 
 -- the size of the difference
 size-at : (c : tie.After-size64) → c .size64 .result ≡ natAbs (c .before .args .longitude -ℤ c .before .args .longitude2)
@@ -32,10 +31,10 @@ sub-other c =
     omega (arith, size-at c, east-apart (start .args .longitude) (start .args .longitude2) (start .pre .0) (start .pre .1))
 
 cast-result : tie.Need-cast-result
-cast-result c = search needs
+cast-result c = omega arith
 
 cast-result-2 : tie.Need-cast-result-2
-cast-result-2 c = search needs
+cast-result-2 c = omega arith
 
 returns : tie.Need-returns
 returns c = omega (arith, size-at (c .before))

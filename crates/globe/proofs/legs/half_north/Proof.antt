@@ -1,5 +1,4 @@
 -- `globe::legs::half_north` meets its contract. Assumes nothing.
-use borrow.Author.Needs.{needs}
 use mathlib.Core.Path.{_≡_}
 use native.Mathlib.Omega.{arith}
 use lib.IntN.{natAbs, _-ℤ_}
@@ -20,7 +19,7 @@ sub-size64 c =
     rw (at64 (f .latitude), at64 (f .latitude2)) (sub-fits (f .latitude) (f .latitude2))
 
 size64-requires : tie.Need-size64-requires
-size64-requires c κs = search needs
+size64-requires c κs = tt
 
 -- the size of the difference
 size-at : (c : tie.After-size64) → c .size64 .result ≡ natAbs (c .before .args .latitude -ℤ c .before .args .latitude2)

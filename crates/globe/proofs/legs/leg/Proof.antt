@@ -3,9 +3,10 @@
 use borrow.Author.Needs.{needs}
 use mathlib.Core.Path.{_≡_, sym, ap₂, _∙_}
 use mir.Facts.{toZ-ofZ}
-use Rattle.ticks.specs.Choice.{firstOf}
+use Rattle.refusals.specs.Choice.{firstOf}
 use Rattle.ticks.specs.Ticks.{pointRefusal}
-use Rattle.ticks.specs.TickLaws.{first-none, point-accepted}
+use Rattle.refusals.specs.Tests.{first-none}
+use Rattle.ticks.specs.TickLaws.{point-accepted}
 use Rattle.globe.specs.Leg.{legOf}
 use Rattle.globe.specs.LegLaws.{refused}
 use Rattle.globe.proofs.legs.leg.Statement.{statement}
@@ -22,13 +23,13 @@ refusal-is c =
     (c .before .point-refusal2 .ensures ∙ ap₂ pointRefusal (toZ-ofZ (f .latitude2)) (toZ-ofZ (f .longitude2)))
 
 point-refusal-requires : tie.Need-point-refusal-requires
-point-refusal-requires c κs = search needs
+point-refusal-requires c κs = tt
 
 point-refusal-requires-2 : tie.Need-point-refusal-requires-2
-point-refusal-requires-2 c κs = search needs
+point-refusal-requires-2 c κs = tt
 
 first-of-requires : tie.Need-first-of-requires
-first-of-requires c κs = search needs
+first-of-requires c κs = tt
 
 returns : tie.Need-returns
 unfolding legOf

@@ -7,7 +7,7 @@ use mir.Facts.{toZ-ofZ}
 use Rattle.sines.specs.Sine.{shortUnit}
 use Rattle.globe.specs.Angle.{shortCosine}
 use Rattle.globe.specs.Leg.{halfNorth, halfEast, legLength}
-use Rattle.globe.specs.LegLaws.{north-top, east-top, product-top, chord-top}
+use Rattle.globe.specs.LegLaws.{north-top, east-top, product-top}
 use Rattle.globe.proofs.legs.leg_length.Statement.{statement}
 use Rattle.globe.proofs.legs.leg_length.Tie as tie
 
@@ -62,9 +62,7 @@ chord-of-requires c κs =
     )
 
 length-of-requires : tie.Need-length-of-requires
-length-of-requires c κs =
-    let asked = chord-of-requires (c .before) (c .chord-of .lifetimes) in
-    (search needs, omega (arith, c .chord-of .ensures, chord-top _ _ _ (asked .1 .0) (asked .1 .1 .0) (asked .1 .1 .1)))
+length-of-requires c κs = search needs
 
 returns : tie.Need-returns
 unfolding legLength

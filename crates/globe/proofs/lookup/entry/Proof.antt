@@ -1,5 +1,5 @@
 -- `globe::lookup::entry` meets its contract: the lent array is the table. Assumes nothing.
-use borrow.Author.Needs.{needs}
+use native.Mathlib.Omega.{arith}
 use mathlib.Core.Path.{ap}
 use mathlib.Core.List.{List}
 use Prim.Native.Nat.{ℕ}
@@ -9,10 +9,10 @@ use Rattle.globe.proofs.lookup.entry.Statement.{statement}
 use Rattle.globe.proofs.lookup.entry.Tie as tie
 
 mul-result : tie.Need-mul-result
-mul-result c = search needs
+mul-result c = omega arith
 
 element-copy-out-result : tie.Need-element-copy-out-result
-element-copy-out-result c = search needs
+element-copy-out-result c = omega arith
 
 returns : tie.Need-returns
 unfolding entry

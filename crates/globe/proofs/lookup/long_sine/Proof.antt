@@ -7,7 +7,7 @@ use mir.Syntax.{w64}
 use mir.Facts.{toZ-ofZ}
 use Rattle.signed.specs.Machine.{signed, at64, kept}
 use Rattle.ticks.specs.Ticks.{isLatitude}
-use Rattle.ticks.specs.TickLaws.{passed, failed}
+use Rattle.refusals.specs.Tests.{passed, failed}
 use Rattle.globe.specs.Angle.{longSineOf}
 use Rattle.globe.proofs.lookup.long_sine.Statement.{statement}
 use Rattle.globe.proofs.lookup.long_sine.Tie as tie
@@ -19,7 +19,7 @@ cast-is-latitude : tie.Need-cast-is-latitude
 cast-is-latitude c = search signed
 
 is-latitude-requires : tie.Need-is-latitude-requires
-is-latitude-requires c κs = search needs
+is-latitude-requires c κs = tt
 
 returns : tie.Need-returns
 unfolding longSineOf

@@ -12,7 +12,7 @@ use Rattle.globe.proofs.lookup.long_sine_of.Statement.{statement}
 use Rattle.globe.proofs.lookup.long_sine_of.Tie as tie
 
 cast-k : tie.Need-cast-k
-cast-k c = search needs
+cast-k c = omega arith
 
 entry-requires : tie.Need-entry-requires
 entry-requires c κs = search needs
@@ -23,7 +23,7 @@ returns c =
     cc (last, longSine-quarter)
 
 add-entry : tie.Need-add-entry
-add-entry c = search needs
+add-entry c = omega arith
 
 entry-requires-2 : tie.Need-entry-requires-2
 entry-requires-2 c κs = search needs
@@ -49,23 +49,23 @@ sub-gap : tie.Need-sub-gap
 sub-gap c = omega (arith, rises c)
 
 cast-result : tie.Need-cast-result
-cast-result c = search needs
+cast-result c = omega arith
 
 mul-result : tie.Need-mul-result
 mul-result c = omega (arith, share c)
 
 cast-result-2 : tie.Need-cast-result-2
-cast-result-2 c = search needs
+cast-result-2 c = omega arith
 
 div-result : tie.Need-div-result
-div-result c = search needs
+div-result c = omega arith
 
 add-result : tie.Need-add-result
 add-result c = omega (arith, share c, rises c)
 
 returns-2 : tie.Need-returns-2
 unfolding sineBy between
-returns-2 c = cc
+returns-2 c = rw (c .entry2 .ensures, c .before .before .entry .ensures)
 
 pub long-sine-of-spec : {M : Type 1} → statement M
 long-sine-of-spec =

@@ -10,7 +10,7 @@ use Rattle.globe.proofs.lookup.short_cosine.Statement.{statement}
 use Rattle.globe.proofs.lookup.short_cosine.Tie as tie
 
 size32-requires : tie.Need-size32-requires
-size32-requires c κs = search needs
+size32-requires c κs = tt
 
 size-at : (c : tie.After-size32) → c .size32 .result ≡ natAbs (c .before .args .latitude)
 size-at c = rw (toZ-ofZ (c .before .fits .latitude)) at (c .size32 .ensures)
@@ -23,7 +23,7 @@ short-sine-of-requires c κs = search needs
 
 returns : tie.Need-returns
 unfolding shortCosine
-returns c = cc (size-at (c .before))
+returns c = rw (c .short-sine-of .ensures, size-at (c .before))
 
 pub short-cosine-spec : {M : Type 1} → statement M
 short-cosine-spec =

@@ -11,7 +11,7 @@ use mir.Facts.{toZ-ofZ}
 use Rattle.signed.specs.Machine.{signed, at64, kept, quot-fits}
 use Rattle.sines.specs.Sine.{shortening}
 use Rattle.ticks.specs.Ticks.{isLatitude}
-use Rattle.ticks.specs.TickLaws.{passed, failed}
+use Rattle.refusals.specs.Tests.{passed, failed}
 use Rattle.globe.specs.Angle.{signedLongSine, signedShortSine, shortSineOf}
 use Rattle.globe.proofs.lookup.short_sine.Statement.{statement}
 use Rattle.globe.proofs.lookup.short_sine.Tie as tie
@@ -23,7 +23,7 @@ cast-is-latitude : tie.Need-cast-is-latitude
 cast-is-latitude c = search signed
 
 is-latitude-requires : tie.Need-is-latitude-requires
-is-latitude-requires c κs = search needs
+is-latitude-requires c κs = tt
 
 returns : tie.Need-returns
 unfolding shortSineOf
@@ -48,7 +48,7 @@ module _ (c : tie.After-signed-long-sine) where
   fits = rw (← is) (quot-fits w64 {x = c .signed-long-sine .result} shortening (record { sfits = c .signed-long-sine .ok }))
 
 cast-t6 : tie.Need-cast-t6
-cast-t6 c = search needs
+cast-t6 c = omega arith
 
 div-t7 : tie.Need-div-t7
 div-t7 c = (omega arith, rw (long c) (fits c))

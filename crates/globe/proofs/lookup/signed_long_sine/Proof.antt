@@ -18,7 +18,7 @@ cast-with-sign-of : tie.Need-cast-with-sign-of
 cast-with-sign-of c = search signed
 
 size32-requires : tie.Need-size32-requires
-size32-requires c κs = search needs
+size32-requires c κs = tt
 
 size-at : (c : tie.After-size32) → c .size32 .result ≡ natAbs (c .before .args .a)
 size-at c = rw (toZ-ofZ (c .before .fits .a)) at (c .size32 .ensures)
@@ -27,7 +27,7 @@ long-sine-of-requires : tie.Need-long-sine-of-requires
 long-sine-of-requires c κs = (search needs, omega (arith, size-at c, latitude-size (c .before .args .a) (c .before .pre .1)))
 
 with-sign-of-requires : tie.Need-with-sign-of-requires
-with-sign-of-requires c κs = search needs
+with-sign-of-requires c κs = tt
 
 returns : tie.Need-returns
 returns c =

@@ -13,13 +13,13 @@ returns c =
     greatest-angle a-step r (omega arith) (omega arith) (last-angle-top a-step {y = r * 10_000 + 9_999} (omega arith))
 
 mul-last-angle : tie.Need-mul-last-angle
-mul-last-angle c = search needs
+mul-last-angle c = omega arith
 
 sub-last-angle : tie.Need-sub-last-angle
-sub-last-angle c = search needs
+sub-last-angle c = omega arith
 
 add-last-angle : tie.Need-add-last-angle
-add-last-angle c = search needs
+add-last-angle c = omega arith
 
 last-angle-requires : tie.Need-last-angle-requires
 last-angle-requires c κs = search needs

@@ -20,7 +20,7 @@ entry-requires : tie.Need-entry-requires
 entry-requires c κs = search needs
 
 add-entry : tie.Need-add-entry
-add-entry c = search needs
+add-entry c = omega arith
 
 entry-requires-2 : tie.Need-entry-requires-2
 entry-requires-2 c κs = search needs
@@ -49,28 +49,28 @@ sub-gap : tie.Need-sub-gap
 sub-gap c = omega (arith, gap c)
 
 sub-f : tie.Need-sub-f
-sub-f c = search needs
+sub-f c = omega arith
 
 add-f : tie.Need-add-f
 add-f c = omega (arith, short c)
 
 cast-f : tie.Need-cast-f
-cast-f c = search needs
+cast-f c = omega arith
 
 mul-f : tie.Need-mul-f
 mul-f c = omega (arith, short c)
 
 sub-f-2 : tie.Need-sub-f-2
-sub-f-2 c = search needs
+sub-f-2 c = omega arith
 
 div-f : tie.Need-div-f
 div-f c = gap c
 
 cast-result : tie.Need-cast-result
-cast-result c = search needs
+cast-result c = omega arith
 
 mul-result : tie.Need-mul-result
-mul-result c = search needs
+mul-result c = omega arith
 
 add-result : tie.Need-add-result
 add-result c = rw (c .before .entry .ensures, c .entry2 .ensures) (omega (arith, inner c, units a-step (inner c) (row c)))

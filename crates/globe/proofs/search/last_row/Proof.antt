@@ -31,25 +31,25 @@ abbrev μ-loop : tie.MeasureT-loop
 μ-loop t y low₀ rows₀ low left = left
 
 add-rows : tie.Need-add-rows Inv-loop μ-loop
-add-rows c = search needs
+add-rows c = omega arith
 
 loop-holds : tie.Need-loop-holds Inv-loop μ-loop
 loop-holds c = omega (arith, first)
 
 add-entry : tie.Need-add-entry Inv-loop μ-loop
-add-entry c = search needs
+add-entry c = omega arith
 
 entry-requires : tie.Need-entry-requires Inv-loop μ-loop
 entry-requires c κs = search needs
 
 add-low : tie.Need-add-low Inv-loop μ-loop
-add-low c = search needs
+add-low c = omega arith
 
 sub-rows : tie.Need-sub-rows Inv-loop μ-loop
-sub-rows c = search needs
+sub-rows c = omega arith
 
 loop-less : tie.Need-loop-less Inv-loop μ-loop
-loop-less c = search needs
+loop-less c = omega arith
 
 loop-again : tie.Need-loop-again Inv-loop μ-loop
 loop-again c =

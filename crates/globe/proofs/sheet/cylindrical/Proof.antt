@@ -21,14 +21,14 @@ accepted : (c : tie.Else1) → let a = c .before .before .args in sheetRefusal (
 accepted c = sym (refusal-is (c .before)) ∙ c .if1 .left
 
 sheet-refusal-requires : tie.Need-sheet-refusal-requires
-sheet-refusal-requires c κs = search needs
+sheet-refusal-requires c κs = tt
 
 returns : tie.Need-returns
 unfolding placeOf
 returns c = rw (← refusal-is (c .before)) (refused _ _ (c .if1 .taken))
 
 offset-requires : tie.Need-offset-requires
-offset-requires c κs = search needs
+offset-requires c κs = tt
 
 signed-long-sine-requires : tie.Need-signed-long-sine-requires
 signed-long-sine-requires c κs =

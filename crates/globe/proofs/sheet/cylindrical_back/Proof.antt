@@ -16,7 +16,8 @@ use Rattle.sines.specs.Back.{LastAngle, angleOf}
 use Rattle.sines.specs.BackLaws.{angleOf-some, angleOf-none}
 use Rattle.sines.specs.Sine.{step}
 use Rattle.ticks.specs.Ticks.{isLatitude, isLongitude}
-use Rattle.ticks.specs.TickLaws.{passed, failed, size-latitude, latitude-fits}
+use Rattle.refusals.specs.Tests.{passed, failed}
+use Rattle.ticks.specs.TickLaws.{size-latitude, latitude-fits}
 use Rattle.globe.specs.Sheet.{backOf}
 use Rattle.globe.proofs.sheet.cylindrical_back.Statement.{statement}
 use Rattle.globe.proofs.sheet.cylindrical_back.Tie as tie
@@ -28,14 +29,14 @@ cast-is-longitude : tie.Need-cast-is-longitude
 cast-is-longitude c = search signed
 
 is-longitude-requires : tie.Need-is-longitude-requires
-is-longitude-requires c κs = search needs
+is-longitude-requires c κs = tt
 
 returns : tie.Need-returns
 unfolding backOf
 returns c = rw (failed isLongitude (at64 (c .before .before .fits .meridian)) (c .before .is-longitude .ensures) (c .if1 .taken))
 
 size64-requires : tie.Need-size64-requires
-size64-requires c κs = search needs
+size64-requires c κs = tt
 
 last-angle-requires : tie.Need-last-angle-requires
 last-angle-requires c κs = search needs
@@ -68,10 +69,10 @@ returns-2 c =
     rw (meridian-ok (d .before .before .before), n)
 
 cast-with-sign-of : tie.Need-cast-with-sign-of
-cast-with-sign-of c = search needs
+cast-with-sign-of c = omega arith
 
 with-sign-of-requires : tie.Need-with-sign-of-requires
-with-sign-of-requires c κs = search needs
+with-sign-of-requires c κs = tt
 
 -- the angle is the one, and with the sign of y it is a latitude
 module _ (c : tie.After-with-sign-of) where

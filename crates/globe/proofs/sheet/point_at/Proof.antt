@@ -1,6 +1,5 @@
 -- `globe::sheet::point_at` meets its contract. The quotient and its product with the width lie between 0 and x, so both fit.
 -- Assumes nothing.
-use borrow.Author.Needs.{needs}
 use native.Mathlib.Omega.{arith}
 use mathlib.Core.Path.{_≡_, ap, _∙_}
 use mathlib.Core.Bool.{true}
@@ -15,7 +14,8 @@ use mir.Facts.{toZ-ofZ}
 use Rattle.signed.specs.Tests.{eq-eqZ, ne-eqZ}
 use Rattle.signed.specs.Machine.{signed, at64, kept, quot-fits, exact-fits, same-bits}
 use Rattle.ticks.specs.Ticks.{isLongitude, turned}
-use Rattle.ticks.specs.TickLaws.{passed, failed, is-longitude, longitude-fits, sum-fits, sum-longitude}
+use Rattle.refusals.specs.Tests.{passed, failed}
+use Rattle.ticks.specs.TickLaws.{is-longitude, longitude-fits, sum-fits, sum-longitude}
 use Rattle.globe.proofs.sheet.point_at.Statement.{statement}
 use Rattle.globe.proofs.sheet.point_at.Tie as tie
 
@@ -40,7 +40,7 @@ module _ (s : tie.Start) where
   q-is = rw (toZ-ofZ (s .fits .x), w-is) (toZ-ofZ q-fits)
 
 at-pole-requires : tie.Need-at-pole-requires
-at-pole-requires c κs = search needs
+at-pole-requires c κs = tt
 
 returns : tie.Need-returns
 returns c =
@@ -49,7 +49,7 @@ returns c =
     (rw (toZ-ofZ (s .fits .latitude), toZ-ofZ (s .fits .x), toZ-ofZ (s .fits .meridian)) at (c .at-pole .ensures))
 
 cast-w : tie.Need-cast-w
-cast-w c = search needs
+cast-w c = omega arith
 
 div-offset : tie.Need-div-offset
 div-offset c = let s = c .before in (omega arith, rw (toZ-ofZ (s .fits .x), w-is s) (q-fits s))
@@ -63,7 +63,7 @@ returns-2 c =
     rw (ne-eqb (w s) 0 (c .before .if1 .left), ne-eqZ (q s *ℤ pos (w s)) (s .args .x) (λ e. (rw (q-is s, w-is s) at (c .if2 .taken)) (ap (ofZ w64) e)))
 
 is-longitude-requires : tie.Need-is-longitude-requires
-is-longitude-requires c κs = search needs
+is-longitude-requires c κs = tt
 
 -- the product is x
 exact : (c : tie.Else2) → q (c .before .before) *ℤ pos (w (c .before .before)) ≡ c .before .before .args .x
@@ -88,7 +88,7 @@ add-into-turn c =
     rw (at64 (s .fits .meridian), q-is s) (sum-fits (q s) (s .args .meridian) (in-range c) (s .pre .1))
 
 into-turn-requires : tie.Need-into-turn-requires
-into-turn-requires c κs = search needs
+into-turn-requires c κs = tt
 
 -- the longitude
 module _ (c : tie.After-into-turn) where

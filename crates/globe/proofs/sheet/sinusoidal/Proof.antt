@@ -27,7 +27,7 @@ accepted : (c : tie.Else1) → let a = c .before .before .args in sheetRefusal (
 accepted c = sym (refusal-is (c .before)) ∙ c .if1 .left
 
 sheet-refusal-requires : tie.Need-sheet-refusal-requires
-sheet-refusal-requires c κs = search needs
+sheet-refusal-requires c κs = tt
 
 returns : tie.Need-returns
 unfolding placeOf
@@ -38,7 +38,7 @@ short-cosine-requires c κs =
     rw (toZ-ofZ (c .before .before .fits .latitude)) (search needs, sheet-accepted _ _ _ (accepted c) .1)
 
 offset-requires : tie.Need-offset-requires
-offset-requires c κs = search needs
+offset-requires c κs = tt
 
 -- offset × short cosine, as the machine has the two
 module _ (c : tie.After-offset) where

@@ -9,7 +9,8 @@ use mir.Val.{toZ, ofZ}
 use mir.Facts.{toZ-ofZ}
 use Rattle.signed.specs.Machine.{signed, at32, at64}
 use Rattle.ticks.specs.Ticks.{isLatitude, isLongitude}
-use Rattle.ticks.specs.TickLaws.{passed, failed, latitude-fits}
+use Rattle.refusals.specs.Tests.{passed, failed}
+use Rattle.ticks.specs.TickLaws.{latitude-fits}
 use Rattle.globe.specs.Angle.{shortCosine}
 use Rattle.globe.specs.AngleLaws.{cosine-top}
 use Rattle.globe.specs.Sheet.{backOf}
@@ -23,14 +24,14 @@ cast-is-longitude : tie.Need-cast-is-longitude
 cast-is-longitude c = search signed
 
 is-longitude-requires : tie.Need-is-longitude-requires
-is-longitude-requires c κs = search needs
+is-longitude-requires c κs = tt
 
 returns : tie.Need-returns
 unfolding backOf
 returns c = rw (failed isLongitude (at64 (c .before .before .fits .meridian)) (c .before .is-longitude .ensures) (c .if1 .taken))
 
 is-latitude-requires : tie.Need-is-latitude-requires
-is-latitude-requires c κs = search needs
+is-latitude-requires c κs = tt
 
 returns-2 : tie.Need-returns-2
 unfolding backOf

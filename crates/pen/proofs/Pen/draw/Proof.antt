@@ -1,6 +1,5 @@
 -- `pen::Pen::draw` meets its contract.
 -- Assumes nothing.
-use borrow.Author.Needs.{needs}
 use borrow.Author.Tests.{not-true, not-false}
 use mathlib.Core.Path.{_≡_, sym, _∙_}
 use mathlib.Core.Bool.{true, false}
@@ -17,16 +16,16 @@ use Rattle.pen.proofs.Pen.draw.Statement.{statement}
 use Rattle.pen.proofs.Pen.draw.Tie as tie
 
 holds-requires : tie.Need-holds-requires
-holds-requires c κs = search needs
+holds-requires c κs = tt
 
 returns : tie.Need-returns
 returns c = sym (drawn-outside _ _ _ _ _ _ (sym (c .before .holds .ensures) ∙ not-true _ (c .if1 .taken)))
 
 int-to-float-a : tie.Need-int-to-float-a
-int-to-float-a c = search needs
+int-to-float-a c = omega arith
 
 int-to-float-b : tie.Need-int-to-float-b
-int-to-float-b c = search needs
+int-to-float-b c = omega arith
 
 -- past the test of the window
 within : (c : tie.Else1) → let a = c .before .before .args in inside (a .window) (a .x) (a .y) ≡ true

@@ -27,20 +27,20 @@ divisor-passed : (c : tie.Else2) → isDivisor (c .before .before .before .befor
 divisor-passed c = sym (c .before .is-divisor .ensures) ∙ not-false _ (c .if2 .left)
 
 is-window-requires : tie.Need-is-window-requires
-is-window-requires c κs = search needs
+is-window-requires c κs = tt
 
 returns : tie.Need-returns
 returns c = sym (no-window _ _ _ _ _ _ _ (sym (c .before .is-window .ensures) ∙ not-true _ (c .if1 .taken)))
 
 is-divisor-requires : tie.Need-is-divisor-requires
-is-divisor-requires c κs = search needs
+is-divisor-requires c κs = tt
 
 returns-2 : tie.Need-returns-2
 returns-2 c =
     sym (no-divisor _ _ _ _ _ _ _ (window-passed (c .before .before)) (sym (c .before .is-divisor .ensures) ∙ not-true _ (c .if2 .taken)))
 
 sinusoidal-requires : tie.Need-sinusoidal-requires
-sinusoidal-requires c κs = search needs
+sinusoidal-requires c κs = tt
 
 enum-known-place : tie.Need-enum-known-place
 enum-known-place c = search needs
@@ -88,7 +88,7 @@ along-requires : tie.Need-along-requires
 along-requires c κs = rw (kept-y (c .before)) (within (c .before) .1)
 
 draw-requires : tie.Need-draw-requires
-draw-requires c κs = search needs
+draw-requires c κs = tt
 
 enum-known-place-2 : tie.Need-enum-known-place-2
 enum-known-place-2 c = search needs

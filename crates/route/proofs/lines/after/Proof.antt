@@ -1,6 +1,7 @@
 -- `after` meets its contract: each kind of line leaves what the definition says.
 -- Assumes nothing.
 use mathlib.Core.Path.{sym, ap}
+use native.Mathlib.Omega.{arith}
 use borrow.Author.Needs.{needs}
 use Rattle.route.specs.Line.{afterOf}
 use Rattle.route.proofs.lines.after.Statement.{statement}
@@ -13,7 +14,7 @@ enum-told : tie.Need-enum-told
 enum-told c = search needs
 
 add-t10 : tie.Need-add-t10
-add-t10 c = search needs
+add-t10 c = omega arith
 
 enum-told-2 : tie.Need-enum-told-2
 enum-told-2 c = search needs

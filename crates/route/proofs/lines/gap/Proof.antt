@@ -2,9 +2,8 @@
 -- Assumes nothing.
 use mathlib.Core.Path.{_≡_, sym, _∙_}
 use mathlib.Core.Bool.{true}
-use borrow.Author.Needs.{needs}
 use borrow.Author.Tests.{not-true, not-false}
-use Rattle.route.specs.Pieces.{isByte}
+use Rattle.numbers.specs.Pieces.{isByte}
 use Rattle.route.specs.Line.{gByte, gapOf}
 use Rattle.route.proofs.lines.gap.Statement.{statement}
 use Rattle.route.proofs.lines.gap.Tie as tie
@@ -13,14 +12,14 @@ is-g : (c : tie.Else1) → isByte gByte (c .before .before .before .args .kind .
 is-g c = sym (c .before .is-byte .ensures) ∙ not-false _ (c .if1 .left)
 
 is-byte-requires : tie.Need-is-byte-requires
-is-byte-requires c κs = search needs
+is-byte-requires c κs = tt
 
 returns : tie.Need-returns
 unfolding gapOf
 returns c = rw (sym (c .before .is-byte .ensures) ∙ not-true _ (c .if1 .taken))
 
 is-point-requires : tie.Need-is-point-requires
-is-point-requires c κs = search needs
+is-point-requires c κs = tt
 
 returns-2 : tie.Need-returns-2
 unfolding gapOf

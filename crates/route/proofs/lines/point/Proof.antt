@@ -8,11 +8,12 @@ use lib.Dec.{ltb}
 use mir.Syntax.{w32, w64}
 use mir.Val.{SFits}
 use Rattle.signed.specs.Machine.{kept, at32}
-use Rattle.globe.specs.Buffer.{mostPoints}
+use Rattle.points.specs.Points.{mostPoints}
 use Rattle.ticks.specs.TickLaws.{latitude-fits, longitude-fits}
-use Rattle.route.specs.Pieces.{isByte}
+use Rattle.numbers.specs.Pieces.{isByte}
 use Rattle.route.specs.Line.{pByte, pointOf}
-use Rattle.route.specs.LineLaws.{latitude-in, longitude-in}
+use Rattle.numbers.specs.declared.Kind.the-variants as K
+use Rattle.numbers.specs.NumberLaws.{number-in, latitude-in, longitude-in}
 use Rattle.route.proofs.lines.point.Statement.{statement}
 use Rattle.route.proofs.lines.point.Tie as tie
 
@@ -24,13 +25,19 @@ few c = lt-ltb _ _ (c .if2 .left)
 
 -- a number that was read is one of 32 bits
 latitude-fits-32 : (c : tie.After-known-told) → SFits w32 (c .before .number .given .0 .0)
-latitude-fits-32 c = let y = c .before .before .before in latitude-fits (latitude-in _ _ _ (sym (y .latitude .ensures) ∙ c .before .number .given .1))
+latitude-fits-32 c =
+    let y = c .before .before .before in
+    let v = c .before .number .given .0 .0 in
+    latitude-fits (latitude-in v (number-in K.Latitude _ _ v (sym (y .read .ensures) ∙ c .before .number .given .1)))
 
 longitude-fits-32 : (c : tie.After-known-told2) → SFits w32 (c .before .number2 .given .0 .0)
-longitude-fits-32 c = let x = c .before .before .before in longitude-fits (longitude-in _ _ _ (sym (x .longitude .ensures) ∙ c .before .number2 .given .1))
+longitude-fits-32 c =
+    let x = c .before .before .before in
+    let v = c .before .number2 .given .0 .0 in
+    longitude-fits (longitude-in v (number-in K.Longitude _ _ v (sym (x .read2 .ensures) ∙ c .before .number2 .given .1)))
 
 is-byte-requires : tie.Need-is-byte-requires
-is-byte-requires c κs = search needs
+is-byte-requires c κs = tt
 
 returns : tie.Need-returns
 unfolding pointOf
@@ -40,8 +47,8 @@ returns-2 : tie.Need-returns-2
 unfolding pointOf
 returns-2 c = rw (is-p (c .before), le-ltb (c .before .before .before .before .before .before .args .points) mostPoints (c .if2 .taken))
 
-latitude-requires : tie.Need-latitude-requires
-latitude-requires c κs = search needs
+read-requires : tie.Need-read-requires
+read-requires c κs = tt
 
 enum-known-number : tie.Need-enum-known-number
 enum-known-number c = search needs
@@ -50,16 +57,16 @@ enum-told : tie.Need-enum-told
 enum-told c = search needs
 
 refusal-of-requires : tie.Need-refusal-of-requires
-refusal-of-requires c κs = search needs
+refusal-of-requires c κs = tt
 
 returns-3 : tie.Need-returns-3
 unfolding pointOf
 returns-3 c =
     let y = c .before .before .before in
-    rw (is-p (y .before .before), few (y .before), ← y .latitude .ensures, c .refusal-of .ensures, c .before .enum-told .given .1)
+    rw (is-p (y .before .before), few (y .before), ← y .read .ensures, c .refusal-of .ensures, c .before .enum-told .given .1)
 
-longitude-requires : tie.Need-longitude-requires
-longitude-requires c κs = search needs
+read-requires-2 : tie.Need-read-requires-2
+read-requires-2 c κs = tt
 
 enum-known-number2 : tie.Need-enum-known-number2
 enum-known-number2 c = search needs
@@ -68,7 +75,7 @@ enum-told-2 : tie.Need-enum-told-2
 enum-told-2 c = search needs
 
 refusal-of-requires-2 : tie.Need-refusal-of-requires-2
-refusal-of-requires-2 c κs = search needs
+refusal-of-requires-2 c κs = tt
 
 returns-4 : tie.Need-returns-4
 unfolding pointOf
@@ -76,13 +83,13 @@ returns-4 c =
     let x = c .before .before .before in
     let v = x .before .before in
     let y = v .before .before in
-    rw (is-p (y .before .before), few (y .before), ← y .latitude .ensures, v .number .given .1, ← x .longitude .ensures, c .refusal-of2 .ensures, c .before .enum-told2 .given .1)
-
-cast-t15 : tie.Need-cast-t15
-cast-t15 c = let d = c .before .before .before .before in rw (kept w64 (d .before .number .given .0 .0) (d .known-told .given .0 .1)) (latitude-fits-32 d)
+    rw (is-p (y .before .before), few (y .before), ← y .read .ensures, v .number .given .1, ← x .read2 .ensures, c .refusal-of2 .ensures, c .before .enum-told2 .given .1)
 
 cast-t16 : tie.Need-cast-t16
-cast-t16 c = rw (kept w64 (c .before .number2 .given .0 .0) (c .known-told2 .given .0 .1)) (longitude-fits-32 c)
+cast-t16 c = let d = c .before .before .before .before in rw (kept w64 (d .before .number .given .0 .0) (d .known-told .given .0 .1)) (latitude-fits-32 d)
+
+cast-t17 : tie.Need-cast-t17
+cast-t17 c = rw (kept w64 (c .before .number2 .given .0 .0) (c .known-told2 .given .0 .1)) (longitude-fits-32 c)
 
 returns-5 : tie.Need-returns-5
 unfolding pointOf
@@ -91,7 +98,7 @@ returns-5 c =
     let x = w .before .before in
     let v = x .before .before in
     let y = v .before .before in
-    rw (is-p (y .before .before), few (y .before), ← y .latitude .ensures, v .number .given .1, ← x .longitude .ensures, w .number2 .given .1, at32 (record { sfits = x .before .known-told .given .0 .1 }) (latitude-fits-32 (x .before)), at32 (record { sfits = c .known-told2 .given .0 .1 }) (longitude-fits-32 c))
+    rw (is-p (y .before .before), few (y .before), ← y .read .ensures, v .number .given .1, ← x .read2 .ensures, w .number2 .given .1, at32 (record { sfits = x .before .known-told .given .0 .1 }) (latitude-fits-32 (x .before)), at32 (record { sfits = c .known-told2 .given .0 .1 }) (longitude-fits-32 c))
 
 pub point-spec : {M : Type 1} → statement M
 point-spec =
@@ -100,16 +107,16 @@ point-spec =
     is-byte-requires
     returns
     returns-2
-    latitude-requires
+    read-requires
     enum-known-number
     enum-told
     refusal-of-requires
     returns-3
-    longitude-requires
+    read-requires-2
     enum-known-number2
     enum-told-2
     refusal-of-requires-2
     returns-4
-    cast-t15
     cast-t16
+    cast-t17
     returns-5)

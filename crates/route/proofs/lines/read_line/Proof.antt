@@ -9,9 +9,9 @@ use borrow.Author.Tests.{ltb-true, ltb-false}
 use lib.ListN.{length}
 use lib.Seq.{length-take-le}
 use Rattle.route.specs.declared.lines.Line.the-variants as L
-use Rattle.route.specs.Refusal.{LINE}
-use Rattle.route.specs.Pieces.{TAB, indexOf}
-use Rattle.route.specs.PieceLaws.{onward}
+use Rattle.refusals.specs.Refusal.{LINE}
+use Rattle.numbers.specs.Pieces.{TAB, indexOf}
+use Rattle.numbers.specs.PieceLaws.{onward}
 use Rattle.route.specs.Line.{lineOf}
 use Rattle.route.specs.LineLaws.{LastSays, last-says, one-field, two-fields, three-fields, more-fields}
 use Rattle.route.proofs.Tags.{last-free}
@@ -27,10 +27,10 @@ second : (c : tie.Else2) →
 second c = omega (arith, c .before .find2 .ensures .1)
 
 find-requires : tie.Need-find-requires
-find-requires c κs = search needs
+find-requires c κs = tt
 
 gap-requires : tie.Need-gap-requires
-gap-requires c κs = search needs
+gap-requires c κs = tt
 
 returns : tie.Need-returns
 returns c =
@@ -41,22 +41,22 @@ slice-aggregate-kind : tie.Need-slice-aggregate-kind
 slice-aggregate-kind c = sym (length-take-le _ _ (c .before .before .find .ensures .1))
 
 add-fields : tie.Need-add-fields
-add-fields c = search needs
+add-fields c = omega arith
 
 sub-fields : tie.Need-sub-fields
-sub-fields c = search needs
+sub-fields c = omega arith
 
 part-fields-start : tie.Need-part-fields-start
-part-fields-start c = search needs
+part-fields-start c = omega arith
 
 part-fields-end : tie.Need-part-fields-end
-part-fields-end c = search needs
+part-fields-end c = omega arith
 
 find-requires-2 : tie.Need-find-requires-2
-find-requires-2 c κs = search needs
+find-requires-2 c κs = tt
 
 target-requires : tie.Need-target-requires
-target-requires c κs = search needs
+target-requires c κs = tt
 
 returns-2 : tie.Need-returns-2
 returns-2 c =
@@ -68,28 +68,28 @@ returns-2 c =
     sym (two-fields _ _ s i (f .find .ensures .0) (first (g .before .before .before)) (onward s (i + 1)) refl (omega (arith, g .find2 .ensures .0)))
 
 add-last : tie.Need-add-last
-add-last c = search needs
+add-last c = omega arith
 
 sub-last : tie.Need-sub-last
-sub-last c = search needs
+sub-last c = omega arith
 
 part-last-start : tie.Need-part-last-start
-part-last-start c = search needs
+part-last-start c = omega arith
 
 part-last-end : tie.Need-part-last-end
-part-last-end c = search needs
+part-last-end c = omega arith
 
 slice-aggregate-point : tie.Need-slice-aggregate-point
 slice-aggregate-point c = sym (length-take-le _ _ (c .before .before .before .find2 .ensures .1))
 
 point-requires : tie.Need-point-requires
-point-requires c κs = search needs
+point-requires c κs = tt
 
 enum-told : tie.Need-enum-told
 enum-told c = search needs
 
 has-requires : tie.Need-has-requires
-has-requires c κs = search needs
+has-requires c κs = tt
 
 -- three fields, or more
 module _ (c : tie.After-point) where

@@ -8,9 +8,9 @@ use borrow.Author.Tests.{not-true, not-false}
 use lib.IntN.{natAbs}
 use mir.Syntax.{w64}
 use Rattle.signed.specs.Machine.{kept}
-use Rattle.route.specs.Pieces.{isByte}
-use Rattle.route.specs.Number.{kilometres, numberOf}
-use Rattle.route.specs.NumberLaws.{number-size}
+use Rattle.numbers.specs.Pieces.{isByte}
+use Rattle.numbers.specs.declared.Kind.the-variants as K
+use Rattle.numbers.specs.NumberLaws.{number-size}
 use Rattle.route.specs.Line.{isFirst, tByte, targetOf}
 use Rattle.route.proofs.lines.target.Statement.{statement}
 use Rattle.route.proofs.lines.target.Tie as tie
@@ -21,33 +21,25 @@ is-t c = sym (c .before .is-byte .ensures) ∙ not-false _ (c .if1 .left)
 first : (c : tie.Else2) → isFirst (c .before .before .before .before .before .before .args .before) ≡ true
 first c = sym (c .before .is-first .ensures) ∙ not-false _ (c .if2 .left)
 
-read : (c : tie.After-read-number) →
-    let s = c .before .before .before .before .before .before .before .before in
-    c .read-number .result ≡ numberOf kilometres (s .args .mark) (s .args .field .now)
-read c = rw (← c .before .kilometres .ensures) (c .read-number .ensures)
-
 size : (c : tie.After-size64) → c .size64 .result ≡ natAbs (c .before .before .number .given .0 .0)
 size c = c .size64 .ensures ∙ ap natAbs (kept w64 (c .before .before .number .given .0 .0) (c .before .known-told .given .0 .1))
 
 is-byte-requires : tie.Need-is-byte-requires
-is-byte-requires c κs = search needs
+is-byte-requires c κs = tt
 
 returns : tie.Need-returns
 unfolding targetOf
 returns c = rw (sym (c .before .is-byte .ensures) ∙ not-true _ (c .if1 .taken))
 
 is-first-requires : tie.Need-is-first-requires
-is-first-requires c κs = search needs
+is-first-requires c κs = tt
 
 returns-2 : tie.Need-returns-2
 unfolding targetOf
 returns-2 c = rw (is-t (c .before .before), sym (c .before .is-first .ensures) ∙ not-true _ (c .if2 .taken))
 
-kilometres-requires : tie.Need-kilometres-requires
-kilometres-requires c κs = search needs
-
-read-number-requires : tie.Need-read-number-requires
-read-number-requires c κs = rw (c .kilometres .ensures) (omega arith)
+read-requires : tie.Need-read-requires
+read-requires c κs = tt
 
 enum-known-number : tie.Need-enum-known-number
 enum-known-number c = search needs
@@ -56,24 +48,24 @@ enum-told : tie.Need-enum-told
 enum-told c = search needs
 
 refusal-of-requires : tie.Need-refusal-of-requires
-refusal-of-requires c κs = search needs
+refusal-of-requires c κs = tt
 
 returns-3 : tie.Need-returns-3
 unfolding targetOf
 returns-3 c =
     let n = c .before .before .before in
-    let d = n .before .before in
-    rw (is-t (d .before .before), first d, ← read n, c .refusal-of .ensures, c .before .enum-told .given .1)
+    let d = n .before in
+    rw (is-t (d .before .before), first d, ← n .read .ensures, c .refusal-of .ensures, c .before .enum-told .given .1)
 
 size64-requires : tie.Need-size64-requires
-size64-requires c κs = search needs
+size64-requires c κs = tt
 
 mul-t12 : tie.Need-mul-t12
 mul-t12 c =
     let v = c .before .before in
     let n = v .before .before in
-    let s = n .before .before .before .before .before .before .before .before in
-    let few = number-size kilometres (s .args .mark) (s .args .field .now) (v .number .given .0 .0) (sym (read n) ∙ v .number .given .1) in
+    let s = n .before .before .before .before .before .before .before in
+    let few = number-size K.Target (s .args .mark) (s .args .field .now) (v .number .given .0 .0) (sym (n .read .ensures) ∙ v .number .given .1) in
     omega (arith, size c, few)
 
 returns-4 : tie.Need-returns-4
@@ -81,8 +73,8 @@ unfolding targetOf
 returns-4 c =
     let v = c .before .before in
     let n = v .before .before in
-    let d = n .before .before in
-    rw (is-t (d .before .before), first d, ← read n, v .number .given .1, size c)
+    let d = n .before in
+    rw (is-t (d .before .before), first d, ← n .read .ensures, v .number .given .1, size c)
 
 pub target-spec : {M : Type 1} → statement M
 target-spec =
@@ -92,8 +84,7 @@ target-spec =
     returns
     is-first-requires
     returns-2
-    kilometres-requires
-    read-number-requires
+    read-requires
     enum-known-number
     enum-told
     refusal-of-requires

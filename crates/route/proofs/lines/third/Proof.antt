@@ -1,12 +1,11 @@
 -- `third` meets its contract: each answer of the test is the definition's.
 -- Assumes nothing.
 use mathlib.Core.Path.{sym, _∙_}
-use borrow.Author.Needs.{needs}
 use Rattle.route.proofs.lines.third.Statement.{statement}
 use Rattle.route.proofs.lines.third.Tie as tie
 
 is-point-requires : tie.Need-is-point-requires
-is-point-requires c κs = search needs
+is-point-requires c κs = tt
 
 returns : tie.Need-returns
 returns c = rw (sym (c .before .is-point .ensures) ∙ c .if1 .taken)

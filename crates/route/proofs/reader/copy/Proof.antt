@@ -24,22 +24,22 @@ loop-holds : tie.Need-loop-holds Inv-loop μ-loop
 loop-holds c = (omega arith, refl, refl)
 
 mul-buffer : tie.Need-mul-buffer Inv-loop μ-loop
-mul-buffer c = search needs
+mul-buffer c = omega arith
 
 shared-slice-copy-out-buffer : tie.Need-shared-slice-copy-out-buffer Inv-loop μ-loop
 shared-slice-copy-out-buffer c = omega (arith, c .before .before .pre .0)
 
 mul-t9 : tie.Need-mul-t9 Inv-loop μ-loop
-mul-t9 c = search needs
+mul-t9 c = omega arith
 
 slice-set-from-buffer : tie.Need-slice-set-from-buffer Inv-loop μ-loop
 slice-set-from-buffer c = let s = c .before .before .before in omega (arith, s .pre .1, c .before .before .loop .inv .2)
 
 add-i : tie.Need-add-i Inv-loop μ-loop
-add-i c = search needs
+add-i c = omega arith
 
 loop-less : tie.Need-loop-less Inv-loop μ-loop
-loop-less c = search needs
+loop-less c = omega arith
 
 loop-again : tie.Need-loop-again Inv-loop μ-loop
 loop-again c =

@@ -1,7 +1,7 @@
 -- `ending` meets its contract: each way out is that of the definition.
 -- Assumes nothing.
 use mathlib.Core.Path.{sym, _∙_}
-use borrow.Author.Needs.{needs}
+use native.Mathlib.Omega.{arith}
 use Rattle.route.specs.WalkLaws.{end-some, end-none}
 use Rattle.route.proofs.reader.ending.Statement.{statement}
 use Rattle.route.proofs.reader.ending.Tie as tie
@@ -10,10 +10,10 @@ returns : tie.Need-returns
 returns c = let s = c .before .before in sym (end-some (s .args .line) (s .args .rest .now) (s .args .st) (c .if1 .taken))
 
 is-gap-requires : tie.Need-is-gap-requires
-is-gap-requires c κs = search needs
+is-gap-requires c κs = tt
 
 sub-t8 : tie.Need-sub-t8
-sub-t8 c = search needs
+sub-t8 c = omega arith
 
 returns-2 : tie.Need-returns-2
 returns-2 c =

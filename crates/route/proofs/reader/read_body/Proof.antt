@@ -11,11 +11,12 @@ use lib.IntN.{ℤ}
 use lib.ListN.{length, take, drop}
 use lib.Seq.{take-at}
 use Rattle.globe.specs.declared.Length.{Length}
-use Rattle.globe.specs.Buffer.{numbers, mostPoints, count, lengthUpTo, measureOf}
+use Rattle.points.specs.Points.{numbers, mostPoints, count}
+use Rattle.globe.specs.Measure.{lengthUpTo, measureOf}
 use Rattle.globe.specs.Paper.{lengthPaper}
 use Rattle.route.specs.declared.lines.State.{State}
 use Rattle.route.specs.declared.reader.Judged.the-variants as J
-use Rattle.route.specs.Pieces.{LF, split}
+use Rattle.numbers.specs.Pieces.{LF, split}
 use Rattle.route.specs.Line.{fresh}
 use Rattle.route.specs.Route.{judgeFrom, pointsFrom, written}
 use Rattle.route.specs.RouteLaws.{counted, few, measured}
@@ -42,15 +43,15 @@ module _ (d : tie.After-judged2) where
   judged : judgeFrom (start d .args .mark) 2 pieces fresh ≡ J.Accepted st
   judged = sym (lines d .read-lines .ensures .0) ∙ d .judged2 .given .1
 
-  three : length (points (start d)) ≡ numbers * st .points
-  three = counted (start d .args .mark) 2 pieces st judged
+  all : length (points (start d)) ≡ numbers * st .points
+  all = counted (start d .args .mark) 2 pieces st judged
 
   some : st .points ≤ mostPoints
   some = few (start d .args .mark) 2 pieces st judged
 
   -- the start of our own buffer
   held : take (numbers * st .points) (lines d .read-lines .last .1 .1 .0) ≡ points (start d)
-  held = ap (take (numbers * st .points)) (lines d .read-lines .ensures .1 .held st (d .judged2 .given .1)) ∙ take-at (points (start d)) _ _ three
+  held = ap (take (numbers * st .points)) (lines d .read-lines .ensures .1 .held st (d .judged2 .given .1)) ∙ take-at (points (start d)) _ _ all
 
 room : (c : tie.Else1) → let d = c .before .before in numbers * st d .points ≤ length (start d .args .buffer .now)
 room c = c .if1 .left
@@ -65,10 +66,10 @@ module _ (c : tie.After-copy) where
       let b = start d .args .buffer .now in
       c .copy .ensures ∙
       ap (λ (l : List ℤ). l ++ drop (numbers * st d .points) b) (held d) ∙
-      ap (λ (n : ℕ). points (start d) ++ drop n b) (sym (three d))
+      ap (λ (n : ℕ). points (start d) ++ drop n b) (sym (all d))
 
   filled : take (numbers * st d .points) (c .copy .last .1 .1 .0) ≡ points (start d)
-  filled = ap (take (numbers * st d .points)) copied ∙ take-at (points (start d)) _ _ (three d)
+  filled = ap (take (numbers * st d .points)) copied ∙ take-at (points (start d)) _ _ (all d)
 
 read-lines-requires : tie.Need-read-lines-requires
 read-lines-requires c κs = search needs
@@ -80,13 +81,13 @@ enum-known-judged-2 : tie.Need-enum-known-judged-2
 enum-known-judged-2 c = search needs
 
 cast-numbers : tie.Need-cast-numbers
-cast-numbers c = search needs
+cast-numbers c = omega arith
 
 mul-numbers : tie.Need-mul-numbers
-mul-numbers c = search needs
+mul-numbers c = omega arith
 
 same-length : tie.Need-same-length
-same-length c = search needs
+same-length c = omega arith
 
 returns : tie.Need-returns
 returns c =
@@ -99,19 +100,19 @@ copy-requires c κs =
     (omega (arith, some d, lines d .read-lines .kept .1 .1 .0, start d .pre .1), room (c .before .before))
 
 slice-reshare-prefix-measure : tie.Need-slice-reshare-prefix-measure
-slice-reshare-prefix-measure c = search needs
+slice-reshare-prefix-measure c = omega arith
 
 slice-aggregate-measure : tie.Need-slice-aggregate-measure
-slice-aggregate-measure c = let e = c .before .before in sym (ap length (filled e) ∙ three (d e))
+slice-aggregate-measure c = let e = c .before .before in sym (ap length (filled e) ∙ all (d e))
 
 measure-requires : tie.Need-measure-requires
-measure-requires c κs = search needs
+measure-requires c κs = tt
 
 millimetres-requires : tie.Need-millimetres-requires
-millimetres-requires c κs = search needs
+millimetres-requires c κs = tt
 
 same-length-2 : tie.Need-same-length-2
-same-length-2 c = search needs
+same-length-2 c = omega arith
 
 returns-2 : tie.Need-returns-2
 returns-2 c =
@@ -119,10 +120,10 @@ returns-2 c =
     rw e (refl, refl)
 
 same-length-3 : tie.Need-same-length-3
-same-length-3 c = search needs
+same-length-3 c = omega arith
 
 same-length-4 : tie.Need-same-length-4
-same-length-4 c = search needs
+same-length-4 c = omega arith
 
 returns-3 : tie.Need-returns-3
 returns-3 c =

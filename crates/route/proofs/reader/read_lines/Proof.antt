@@ -1,6 +1,6 @@
 -- `read_lines` meets its contract. The loop's invariant: what is left of the text, judged from this line and state, answers what the whole text
--- answers, and puts into our buffer, from `at` on, what the whole text puts into it from its start; there are no more points than the most, so
--- there is room for them; and the line's number grows by no more than the bytes that were passed.
+-- answers, and puts into our buffer, behind the points so far, what the whole text puts into it from its start; there are no more points than
+-- the most, so there is room for them; and the line's number grows by no more than the bytes that were passed.
 -- Assumes nothing.
 use mathlib.Core.Path.{_≡_, refl, sym, ap, _∙_}
 use mathlib.Core.List.{List, _++_}
@@ -10,11 +10,11 @@ use borrow.Author.Needs.{needs}
 use lib.IntN.{ℤ}
 use lib.ListN.{length, take}
 use lib.Seq.{sets, length-take-le}
-use Rattle.globe.specs.Buffer.{numbers, mostPoints}
-use Rattle.route.specs.declared.Mark.{Mark}
+use Rattle.points.specs.Points.{numbers, mostPoints}
+use Rattle.numbers.specs.declared.Mark.{Mark}
 use Rattle.route.specs.declared.lines.Line.{Line}
-use Rattle.route.specs.Pieces.{LF, split}
-use Rattle.route.specs.PieceLaws.{onward, onward-less}
+use Rattle.numbers.specs.Pieces.{LF, split}
+use Rattle.numbers.specs.PieceLaws.{onward, onward-less}
 use Rattle.route.specs.Line.{fresh, afterOf, numbersOf}
 use Rattle.route.specs.Route.{judgeFrom, pointsFrom}
 use Rattle.route.specs.LineLaws.{line-few, line-counted}
@@ -25,13 +25,13 @@ use Rattle.route.proofs.reader.read_lines.Statement.{statement}
 use Rattle.route.proofs.reader.read_lines.Tie as tie
 
 abbrev Inv-loop : tie.InvT-loop
-Inv-loop text mark own₀ rest₀ line₀ at₀ st₀ own rest line at st =
-    (2 ≤ line) × (line + length rest ≤ 2 + length text) × (st .points ≤ mostPoints) × (at ≡ numbers * st .points) × (length own ≡ length own₀) ×
+Inv-loop text mark own₀ rest₀ line₀ st₀ own rest line st =
+    (2 ≤ line) × (line + length rest ≤ 2 + length text) × (st .points ≤ mostPoints) × (length own ≡ length own₀) ×
     (judgeFrom mark line (split LF rest) st ≡ judgeFrom mark 2 (split LF text) fresh) ×
-    (sets own at (pointsFrom mark (split LF rest) st) ≡ sets own₀ 0 (pointsFrom mark (split LF text) fresh))
+    (sets own (numbers * st .points) (pointsFrom mark (split LF rest) st) ≡ sets own₀ 0 (pointsFrom mark (split LF text) fresh))
 
 abbrev μ-loop : tie.MeasureT-loop
-μ-loop text mark own₀ rest₀ line₀ at₀ st₀ own rest line at st = length rest
+μ-loop text mark own₀ rest₀ line₀ st₀ own rest line st = length rest
 
 abbrev start : tie.After-find Inv-loop μ-loop → tie.Start Inv-loop μ-loop
 start f = f .before .before .before .before
@@ -44,19 +44,19 @@ inside : (c : tie.Else1 Inv-loop μ-loop) → c .before .find .result < length (
 inside c = omega (arith, c .before .find .ensures .1)
 
 fresh-requires : tie.Need-fresh-requires Inv-loop μ-loop
-fresh-requires c κs = search needs
+fresh-requires c κs = tt
 
 loop-holds : tie.Need-loop-holds Inv-loop μ-loop
-loop-holds c = rw (c .fresh .ensures) (omega arith, omega arith, omega arith, omega arith, refl, refl, refl)
+loop-holds c = rw (c .fresh .ensures) (omega arith, omega arith, omega arith, refl, refl, refl)
 
 find-requires : tie.Need-find-requires Inv-loop μ-loop
-find-requires c κs = search needs
+find-requires c κs = tt
 
 ending-requires : tie.Need-ending-requires Inv-loop μ-loop
 ending-requires c κs = omega (arith, c .before .before .loop .inv .0)
 
 same-length : tie.Need-same-length Inv-loop μ-loop
-same-length c = c .before .before .before .loop .inv .4
+same-length c = c .before .before .before .loop .inv .3
 
 returns : tie.Need-returns Inv-loop μ-loop
 returns c =
@@ -65,9 +65,9 @@ returns c =
     let s = start f in
     let m = s .args .mark in
     let place = f .find .ensures .0 in
-    let judged = c .ending .ensures ∙ sym (judge-last m (l .rest .now) (l .st) (f .find .result) place (l .line) (omega arith)) ∙ l .inv .5 in
+    let judged = c .ending .ensures ∙ sym (judge-last m (l .rest .now) (l .st) (f .find .result) place (l .line) (omega arith)) ∙ l .inv .4 in
     let none = points-last m (l .rest .now) (l .st) (f .find .result) place (omega arith) in
-    let all = sym (ap (sets (l .own) (l .at)) none) ∙ l .inv .6 in (
+    let all = sym (ap (sets (l .own) (numbers * l .st .points)) none) ∙ l .inv .5 in (
       judged,
       record {
         held = λ st e.
@@ -81,7 +81,7 @@ slice-aggregate-read-line : tie.Need-slice-aggregate-read-line Inv-loop μ-loop
 slice-aggregate-read-line c = sym (length-take-le _ _ (c .before .before .find .ensures .1))
 
 read-line-requires : tie.Need-read-line-requires Inv-loop μ-loop
-read-line-requires c κs = search needs
+read-line-requires c κs = tt
 
 enum-known-l : tie.Need-enum-known-l Inv-loop μ-loop
 enum-known-l c = search needs
@@ -122,23 +122,23 @@ module _ (c : tie.After-read-line Inv-loop μ-loop) where
   few-yet : afterOf (at .loop .st) l .points ≤ mostPoints
   few-yet = line-few m (at .loop .st) (take e rest) l (c .read-line .ensures) (at .loop .inv .2)
 
-  next : at .loop .at + length these ≡ numbers * afterOf (at .loop .st) l .points
-  next = omega (arith, line-counted (at .loop .st) l, at .loop .inv .3)
+  next : numbers * at .loop .st .points + length these ≡ numbers * afterOf (at .loop .st) l .points
+  next = line-counted (at .loop .st) l
 
 same-length-2 : tie.Need-same-length-2 Inv-loop μ-loop
-same-length-2 c = c .before .before .before .before .before .before .before .loop .inv .4
+same-length-2 c = c .before .before .before .before .before .before .before .loop .inv .3
 
 returns-2 : tie.Need-returns-2 Inv-loop μ-loop
 returns-2 c =
     let r = c .before .before .before in
     let i = at r .loop in
     let refused = judge-refused (m r) (rest r) (i .st) (e r) (f r .find .ensures .0) (within r) (l r) (r .read-line .ensures) (i .line) _ (c .before .l .given .1) in
-    (sym refused ∙ i .inv .5, held-refused)
+    (sym refused ∙ i .inv .4, held-refused)
 
-put-requires : tie.Need-put-requires Inv-loop μ-loop
-put-requires c κs =
+put-line-requires : tie.Need-put-line-requires Inv-loop μ-loop
+put-line-requires c κs =
     let r = c .before .before in
-    omega (arith, next r, few-yet r, at r .loop .inv .4, start (f r) .pre .1)
+    omega (arith, next r, few-yet r, at r .loop .inv .3, start (f r) .pre .1)
 
 after-requires : tie.Need-after-requires Inv-loop μ-loop
 after-requires c κs = at (c .before .before .before .before) .loop .inv .2
@@ -150,13 +150,13 @@ add-rest : tie.Need-add-rest Inv-loop μ-loop
 add-rest c = let r = c .before .before .before .before .before in omega (arith, within r, at r .loop .inv .1, start (f r) .pre .0)
 
 sub-rest : tie.Need-sub-rest Inv-loop μ-loop
-sub-rest c = search needs
+sub-rest c = omega arith
 
 part-rest-start : tie.Need-part-rest-start Inv-loop μ-loop
-part-rest-start c = search needs
+part-rest-start c = omega arith
 
 part-rest-end : tie.Need-part-rest-end Inv-loop μ-loop
-part-rest-end c = search needs
+part-rest-end c = omega arith
 
 loop-less : tie.Need-loop-less Inv-loop μ-loop
 loop-less c = let r = c .before .before .before .before .before .before in onward-less (rest r) (e r) (within r)
@@ -171,10 +171,10 @@ loop-again c =
       omega (arith, i .inv .0),
       omega (arith, onward-less (rest r) (e r) (within r), i .inv .1),
       rw (a .after .ensures) (few-yet r),
-      rw (a .after .ensures) (p .put .ensures .0 ∙ next r),
-      p .put .kept .0 ∙ i .inv .4,
-      rw (a .after .ensures) (sym q ∙ i .inv .5),
-      rw (a .after .ensures, p .put .ensures .0, p .put .ensures .1) (sym (sets-append (these r) (others r) (i .own) (i .at)) ∙ sym (ap (sets (i .own) (i .at)) (step r)) ∙ i .inv .6),
+      p .put-line .kept .0 ∙ i .inv .3,
+      rw (a .after .ensures) (sym q ∙ i .inv .4),
+      rw (a .after .ensures, p .put-line .ensures, ← next r)
+          (sym (sets-append (these r) (others r) (i .own) (numbers * i .st .points)) ∙ sym (ap (sets (i .own) (numbers * i .st .points)) (step r)) ∙ i .inv .5),
     )
 
 pub read-lines-spec : {M : Type 1} → statement M
@@ -194,7 +194,7 @@ read-lines-spec =
     enum-known-l
     same-length-2
     returns-2
-    put-requires
+    put-line-requires
     after-requires
     add-line
     add-rest

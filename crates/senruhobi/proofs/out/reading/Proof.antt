@@ -12,7 +12,7 @@ enum-known-r : tie.Need-enum-known-r
 enum-known-r c = search needs
 
 accepted-requires : tie.Need-accepted-requires
-accepted-requires c κs = search needs
+accepted-requires c κs = tt
 
 enum-known-r-2 : tie.Need-enum-known-r-2
 enum-known-r-2 c = search needs

@@ -1,0 +1,13 @@
+-- `has` meets its contract: the place that `find` answers is the first, if there is one.
+-- Assumes nothing.
+use Rattle.numbers.proofs.pieces.has.Statement.{statement}
+use Rattle.numbers.proofs.pieces.has.Tie as tie
+
+find-requires : tie.Need-find-requires
+find-requires c κs = tt
+
+returns : tie.Need-returns
+returns c = rw (c .find .ensures .0)
+
+pub has-spec : {M : Type 1} → statement M
+has-spec = tie.close (tie.spec find-requires returns)

@@ -1,0 +1,143 @@
+-- What is known of an accepted point buffer, that the numbers of points one after the other are accepted, and what a stored point leaves.
+-- Assumes nothing.
+use mathlib.Core.Path.{_≡_, refl}
+use mathlib.Core.Bool.{true, false}
+use mathlib.Core.List.{List, [], _++_}
+use Prim.Native.Nat.{ℕ, zero, suc, _+_, _*_, _%_, _≤_, _<_}
+use native.Mathlib.Nat.{add-zero, zero-add}
+use native.Mathlib.Omega.{arith}
+use borrow.Author.Count.{below-none, below-more}
+use borrow.Author.Tests.{eqb-true, leb-true, eq-eqb, le-leb, lt-ltb, le-ltb}
+use lib.Dec.{leb, eqb}
+use lib.IntN.{ℤ, pos}
+use lib.ListN.{length, set}
+use lib.Seq.{sets}
+use mir.Syntax.{w32}
+use mir.Facts.{toZ-ofZ}
+use mir.Val.{toZ, ofZ}
+use Rattle.refusals.specs.Refusal.{POINTS, BUFFER}
+use Rattle.refusals.specs.Tests.{and-true, true-and, unless-none, first-none}
+use Rattle.signed.specs.Tests.{eqZ}
+use Rattle.ticks.specs.Ticks.{isLatitude, isLongitude, pointRefusal}
+use Rattle.ticks.specs.TickLaws.{point-accepted, latitude-fits, longitude-fits}
+use Rattle.points.specs.Points.{numbers, pointNumbers, partAt, latitudeAt, longitudeAt, thirdAt, count, mostPoints, putAt, fitsAfter, thirdFits, thirdsFit, pointsRefusal, bufferRefusal}
+
+-- ---- an accepted buffer
+
+pub record Accepted (b : List ℤ) : Type 0 where
+  pub whole : length b % numbers ≡ 0
+  pub thirds : thirdsFit b (count b) ≡ true
+  pub few : count b ≤ mostPoints
+  pub points : pointsRefusal b (count b) ≡ 0
+
+pub accepted : (b : List ℤ) → bufferRefusal b ≡ 0 → Accepted b
+unfolding bufferRefusal
+accepted b e =
+    let p = unless-none (eqb (length b % numbers) 0) BUFFER _ (omega arith) e in
+    let q = unless-none (thirdsFit b (count b)) BUFFER _ (omega arith) (p .1) in
+    let r = unless-none (leb (count b) mostPoints) POINTS _ (omega arith) (q .1) in
+    record { whole = eqb-true _ 0 (p .0); thirds = q .0; few = leb-true _ mostPoints (r .0); points = r .1 }
+
+pub record Point (b : List ℤ) (i : ℕ) : Type 0 where
+  pub latitude : isLatitude (latitudeAt b i) ≡ true
+  pub longitude : isLongitude (longitudeAt b i) ≡ true
+  pub third : thirdFits b i ≡ true
+
+points-of : (b : List ℤ) (n : ℕ) → thirdsFit b n ≡ true → pointsRefusal b n ≡ 0 → (i : ℕ) → i < n → Point b i
+unfolding thirdsFit pointsRefusal
+points-of b zero t e i h = below-none (Point b) i h
+points-of b (suc n) t e i h =
+    let p = and-true (thirdsFit b n) (thirdFits b n) t in
+    let q = first-none (pointsRefusal b n) (pointRefusal (latitudeAt b n) (longitudeAt b n)) e in
+    let a = point-accepted (latitudeAt b n) (longitudeAt b n) (q .1) in
+    below-more (Point b) n (points-of b n (p .0) (q .0)) (record { latitude = a .0; longitude = a .1; third = p .1 }) i (omega arith)
+
+pub point-of : (b : List ℤ) → bufferRefusal b ≡ 0 → (i : ℕ) → i < count b → Point b i
+point-of b e i h = let a = accepted b e in points-of b (count b) (a .thirds) (a .points) i h
+
+-- the machine reads them back
+pub latitude-read : {b : List ℤ} {i : ℕ} → Point b i → toZ w32 (ofZ w32 (latitudeAt b i)) ≡ latitudeAt b i
+latitude-read p = toZ-ofZ (latitude-fits (p .latitude))
+
+pub longitude-read : {b : List ℤ} {i : ℕ} → Point b i → toZ w32 (ofZ w32 (longitudeAt b i)) ≡ longitudeAt b i
+longitude-read p = toZ-ofZ (longitude-fits (p .longitude))
+
+-- a point that a leg leads to is not the first
+pub leg-before : (b : List ℤ) (i : ℕ) → thirdFits b i ≡ true → eqZ (thirdAt b i) (pos 1) ≡ false → 1 ≤ i
+leg-before b i t e = leb-true 1 i (and-true (leb 1 i) (eqZ (thirdAt b i) (pos 0)) (rw e at t) .0)
+
+-- ---- a list of points is accepted
+
+-- the numbers of points one after the other, k points before them
+pub data Points : ℕ → List ℤ → Type 0 where
+  none : {k : ℕ} → Points k []
+  next : {k : ℕ} {lat lon third : ℤ} {b : List ℤ} → isLatitude lat ≡ true → isLongitude lon ≡ true
+      → fitsAfter k third ≡ true → Points (k + 1) b → Points k (pointNumbers lat lon third ++ b)
+
+points-whole : {k : ℕ} {b : List ℤ} → Points k b → length b % numbers ≡ 0
+points-whole none = refl
+points-whole (next y x t ps) = omega (arith, points-whole ps)
+
+record PointAfter (k : ℕ) (b : List ℤ) (i : ℕ) : Type 0 where
+  latitude : isLatitude (latitudeAt b i) ≡ true
+  longitude : isLongitude (longitudeAt b i) ≡ true
+  third : fitsAfter (k + i) (thirdAt b i) ≡ true
+
+-- the numbers of the points behind the first
+behind : (lat lon third : ℤ) (b : List ℤ) (i k : ℕ) → partAt (pointNumbers lat lon third ++ b) (suc i) k ≡ partAt b i k
+behind lat lon third b i k = let e : numbers * suc i + k ≡ suc (suc (suc (numbers * i + k))) = omega arith in rw e
+
+points-at : {k : ℕ} {b : List ℤ} → Points k b → (i : ℕ) → i < count b → PointAfter k b i
+points-at none i h = absurd (omega arith)
+points-at (next y x t ps) zero h = record { latitude = y; longitude = x; third = rw add-zero t }
+points-at (next {k} {lat} {lon} {third} {b} y x t ps) (suc i) h =
+    let p = points-at ps i (omega arith) in
+    let at = behind lat lon third b i in
+    let u : k + suc i ≡ k + 1 + i = omega arith in
+    record { latitude = rw (at 0) (p .latitude); longitude = rw (at 1) (p .longitude); third = rw (at 2, u) (p .third) }
+
+-- the first n points
+module _ (b : List ℤ) where
+  thirds-fit : (n : ℕ) → ((i : ℕ) → i < n → Point b i) → thirdsFit b n ≡ true
+  unfolding thirdsFit
+  thirds-fit zero h = refl
+  thirds-fit (suc n) h = true-and (thirds-fit n (λ i l. h i (omega arith))) (h n (omega arith) .third)
+
+  none-refused : (n : ℕ) → ((i : ℕ) → i < n → Point b i) → pointsRefusal b n ≡ 0
+  unfolding pointsRefusal pointRefusal
+  none-refused zero h = refl
+  none-refused (suc n) h =
+      let p = h n (omega arith) in
+      rw (none-refused n (λ i l. h i (omega arith)), p .latitude, p .longitude)
+
+module _ {b : List ℤ} (ps : Points 0 b) (few : count b ≤ mostPoints) where
+  all-points : (i : ℕ) → i < count b → Point b i
+  all-points i h =
+      let p = points-at ps i h in
+      record { latitude = p .latitude; longitude = p .longitude; third = rw zero-add at (p .third) }
+
+  pub points-accepted : bufferRefusal b ≡ 0
+  unfolding bufferRefusal
+  points-accepted =
+      rw (eq-eqb (length b % numbers) 0 (points-whole ps), thirds-fit b (count b) all-points, le-leb (count b) mostPoints few)
+      (none-refused b (count b) all-points)
+
+-- ---- a stored point
+
+-- number by number
+pub point-sets : (b : List ℤ) (i : ℕ) (lat lon third : ℤ)
+    → set (set (set b (numbers * i) lat) (numbers * i + 1) lon) (numbers * i + 2) third ≡ sets b (numbers * i) (pointNumbers lat lon third)
+point-sets b i lat lon third =
+    let at = numbers * i in
+    let e : at + 1 ≡ suc at = omega arith in
+    let f : at + 2 ≡ suc (suc at) = omega arith in
+    rw (e, f)
+
+module _ (b : List ℤ) (i : ℕ) (lat lon third : ℤ) where
+  pub put-in : i < count b → putAt b i lat lon third ≡ sets b (numbers * i) (pointNumbers lat lon third)
+  unfolding putAt
+  put-in h = rw (lt-ltb i (count b) h)
+
+  pub put-past : count b ≤ i → putAt b i lat lon third ≡ b
+  unfolding putAt
+  put-past h = rw (le-ltb i (count b) h)

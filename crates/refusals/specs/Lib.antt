@@ -1,0 +1,4 @@
+pub mod Refusal
+pub mod Choice
+pub mod Tests
+pub mod One
