@@ -1,5 +1,5 @@
--- "Prove that two results allowed by one statement are equal": an entry for each function of this crate that others can call, and of those
--- that it stands on.
+-- "Prove that two results allowed by one statement are equal": an entry for each function of refusals, signed, sines, ticks and globe that
+-- others can call.
 -- Assumes nothing.
 use mathlib.Core.List.{List}
 use Prim.Native.Nat.{ℕ}
@@ -10,7 +10,6 @@ use Rattle.refusals.specs.One.{One, one}
 use Rattle.signed.specs.Sign.{signAs, nearest}
 use Rattle.sines.specs.Table.{sines}
 use Rattle.ticks.specs.Ticks.{isLatitude, isLongitude, turned, offsetOf, pointRefusal, sheetRefusal}
-use Rattle.points.specs.Points.{count, latitudeAt, longitudeAt, thirdAt, putAt, bufferRefusal}
 use Rattle.globe.specs.Angle.{longSineOf, shortSineOf}
 use Rattle.globe.specs.Sheet.{cylindricalOf, sinusoidalOf, cylindricalBackOf, sinusoidalBackOf}
 use Rattle.globe.specs.Leg.{legOf}
@@ -28,12 +27,6 @@ pub record Unique : Type 0 where
   pub offset : (lon meridian : ℤ) → One (offsetOf lon meridian)
   pub point-refusal : (lat lon : ℤ) → One (pointRefusal lat lon)
   pub sheet-refusal : (lat lon meridian : ℤ) → One (sheetRefusal lat lon meridian)
-  pub count : (points : List ℤ) → One (count points)
-  pub latitude : (points : List ℤ) (i : ℕ) → One (latitudeAt points i)
-  pub longitude : (points : List ℤ) (i : ℕ) → One (longitudeAt points i)
-  pub third : (points : List ℤ) (i : ℕ) → One (thirdAt points i)
-  pub put : (points : List ℤ) (i : ℕ) (lat lon third : ℤ) → One (putAt points i lat lon third)
-  pub buffer-refusal : (points : List ℤ) → One (bufferRefusal points)
   pub long-sine : (angle : ℤ) → One (longSineOf angle)
   pub short-sine : (angle : ℤ) → One (shortSineOf angle)
   pub cylindrical : (lat lon meridian : ℤ) → One (cylindricalOf lat lon meridian)
@@ -56,12 +49,6 @@ unique = record {
   offset = λ lon meridian. one (offsetOf lon meridian);
   point-refusal = λ lat lon. one (pointRefusal lat lon);
   sheet-refusal = λ lat lon meridian. one (sheetRefusal lat lon meridian);
-  count = λ points. one (count points);
-  latitude = λ points i. one (latitudeAt points i);
-  longitude = λ points i. one (longitudeAt points i);
-  third = λ points i. one (thirdAt points i);
-  put = λ points i lat lon third. one (putAt points i lat lon third);
-  buffer-refusal = λ points. one (bufferRefusal points);
   long-sine = λ angle. one (longSineOf angle);
   short-sine = λ angle. one (shortSineOf angle);
   cylindrical = λ lat lon meridian. one (cylindricalOf lat lon meridian);

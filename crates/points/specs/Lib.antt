@@ -1,2 +1,4 @@
 pub mod Points
 pub mod PointLaws
+pub mod Promises
+pub mod Unique

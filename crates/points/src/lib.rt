@@ -21,7 +21,7 @@ pub fn count(points: &[i32]) -> usize
     points.len() / NUMBERS
 }
 
-// A point's number `k`, 0 where the buffer does not have it. The product fits where the point before is there.
+// A point's number `k`, 0 where the buffer does not have it. Nothing is multiplied behind the last point, so that the product fits.
 fn part(points: &[i32], i: usize, k: usize) -> i32
     requires { ⌜ k < numbers ⌝ }
     ensures { λ r. ⌜ r ≡ partAt (now (points .entry)) i k ⌝ }

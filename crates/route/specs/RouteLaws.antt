@@ -10,7 +10,7 @@ use lib.Dec.{leb}
 use lib.IntN.{ℤ}
 use lib.ListN.{length}
 use Rattle.globe.specs.declared.Length.the-variants as G
-use Rattle.points.specs.Points.{numbers, pointNumbers, count, mostPoints, fitsAfter, bufferRefusal}
+use Rattle.points.specs.Points.{numbers, count, mostPoints, fitsAfter, bufferRefusal}
 use Rattle.points.specs.PointLaws.{Points, none, next, points-accepted}
 use Rattle.globe.specs.Measure.{lengthUpTo, measureOf}
 use Rattle.globe.specs.MeasureLaws.{accepted-measured}
@@ -29,7 +29,7 @@ use Rattle.route.specs.declared.reader.Judged.the-variants as J
 use Rattle.refusals.specs.Refusal.{TEXT, HEADER, LINE, ORDER, ROOM, ofLine}
 use Rattle.numbers.specs.Pieces.{LF, split}
 use Rattle.refusals.specs.Tests.{by-test, clash, unless-says}
-use Rattle.route.specs.Line.{isPoint, isGap, lineOf, fresh, afterOf, thirdOf}
+use Rattle.route.specs.Line.{isPoint, isGap, lineOf, fresh, afterOf, thirdOf, numbersOf}
 use Rattle.route.specs.LineLaws.{LineSays, line-says, line-few}
 use Rattle.route.specs.LineLaws as Says
 use Rattle.route.specs.Route.{mostBytes, endOf, onLine, judgeFrom, pointsFrom, headerOf, judgeAfter, judgeLines, judgedOf, pointsOf, answerOf, readingOf}
@@ -80,8 +80,8 @@ third-fits B.Target k h = refl
 third-fits B.Point k h = rw (le-leb 1 k (h refl))
 third-fits B.Gap k h = refl
 
-pointed : {st : State} {fields : List (List ℕ)} {lat lon third : ℤ} {b : List ℤ} → LineSays st fields (L.Point lat lon)
-    → fitsAfter (st .points) third ≡ true → Points (st .points + 1) b → Points (st .points) (pointNumbers lat lon third ++ b)
+pointed : {st : State} {fields : List (List ℕ)} {lat lon : ℤ} {b : List ℤ} → LineSays st fields (L.Point lat lon)
+    → fitsAfter (st .points) (thirdOf (st .before)) ≡ true → Points (st .points + 1) b → Points (st .points) (numbersOf st (L.Point lat lon) ++ b)
 pointed (Says.point p q y x) t ps = next y x t ps
 
 module _ {mark : Mark} where

@@ -7,6 +7,7 @@ use lib.Ieee.{Float}
 use lib.IntN.{ℤ}
 use lib.ListN.{length}
 use Rattle.refusals.specs.One.{One, one}
+use Rattle.points.specs.Unique as O
 use Rattle.numbers.specs.Unique as N
 use Rattle.globe.specs.Angle.{longSineOf, shortSineOf}
 use Rattle.globe.specs.Sheet.{cylindricalOf, sinusoidalOf, cylindricalBackOf, sinusoidalBackOf}
@@ -21,6 +22,7 @@ use Rattle.pen.specs.Unique as P
 use Rattle.senruhobi.specs.Doors.{sineOut, placeOut, pointOut, lengthOut, readingOut, stepOut, penIn, windowIn}
 
 pub record Unique : Type 0 where
+  pub points : O.Unique
   pub numbers : N.Unique
   pub globe : G.Unique
   pub route : R.Unique
@@ -39,6 +41,7 @@ pub record Unique : Type 0 where
 
 pub unique : Unique
 unique = record {
+  points = O.unique;
   numbers = N.unique;
   globe = G.unique;
   route = R.unique;
