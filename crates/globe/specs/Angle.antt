@@ -15,10 +15,6 @@ use Rattle.ticks.specs.Ticks.{isLatitude}
 abbrev pub signedLongSine : ℤ → ℤ
 signedLongSine a = signAs a (longSine (natAbs a))
 
--- "long sine divided by 10,000, dropping toward zero"
-abbrev pub signedShortSine : ℤ → ℤ
-signedShortSine a = quotZ (signedLongSine a) (pos shortening)
-
 -- "the sine, long or short, of 90 degrees less its size"
 unfoldable pub shortCosine : ℤ → ℕ
 shortCosine lat = shortSine (quarter - natAbs lat)
@@ -27,5 +23,6 @@ shortCosine lat = shortSine (quarter - natAbs lat)
 unfoldable pub longSineOf : ℤ → Sine
 longSineOf a = unless (isLatitude a) (Refused LATITUDE) (Value (signedLongSine a))
 
+-- "long sine divided by 10,000, dropping toward zero"
 unfoldable pub shortSineOf : ℤ → Sine
-shortSineOf a = unless (isLatitude a) (Refused LATITUDE) (Value (signedShortSine a))
+shortSineOf a = unless (isLatitude a) (Refused LATITUDE) (Value (quotZ (signedLongSine a) (pos shortening)))

@@ -2,21 +2,30 @@
 -- Assumes nothing.
 use mathlib.Core.Path.{_≡_, refl}
 use mathlib.Core.Bool.{true}
-use Prim.Native.Nat.{ℕ, zero, suc, _-_, _/_, _≤_, _<_}
-use native.Mathlib.Nat.{zero-div}
+use Prim.Native.Nat.{ℕ, zero, suc, _-_, _≤_, _<_}
 use native.Mathlib.Omega.{arith}
 use lib.IntN.{ℤ, pos, negsuc, negℤ, natAbs}
-use lib.Signed.{ltZ, quotZ}
-use borrow.Author.Tests.{ltb-true, lt-ltb}
+use lib.Signed.{ltZ, leZ, quotZ}
+use borrow.Author.Tests.{ltb-true, lt-ltb, le-leb}
 use Rattle.signed.specs.Sides.{neg-above, neg-below}
 use Rattle.signed.specs.Tests.{lt-ltZ}
-use Rattle.signed.specs.Sign.{signAs, as-size}
+use Rattle.signed.specs.SignLaws.{as-size}
 use Rattle.sines.specs.Table.{unit}
-use Rattle.sines.specs.Sine.{quarter, longSine, shortening, shortUnit, shortSine}
+use Rattle.sines.specs.Sine.{quarter, longSine, shortening, shortUnit}
 use Rattle.sines.specs.SineLaws.{longSine-zero, longSine-top, longSine-lt, shortSine-top, shortSine-some}
+use Rattle.refusals.specs.Choice.{answered}
 use Rattle.ticks.specs.Ticks.{isLatitude}
 use Rattle.ticks.specs.TickLaws.{latitude-size}
-use Rattle.globe.specs.Angle.{signedLongSine, signedShortSine, shortCosine}
+use Rattle.globe.specs.Angle.{signedLongSine, shortCosine}
+
+-- a refusal is what is answered
+pub refused : {A : Type 0} (f : ℕ → A) (r : ℕ) (v : A) → (r ≡ 0 → ⊥) → f r ≡ answered r f v
+refused f zero v n = absurd (n refl)
+refused f (suc r) v n = refl
+
+-- the short sine with its sign
+abbrev pub signedShortSine : ℤ → ℤ
+signedShortSine a = quotZ (signedLongSine a) (pos shortening)
 
 pub cosine-top : (lat : ℤ) → shortCosine lat ≤ shortUnit
 unfolding shortCosine
@@ -26,6 +35,9 @@ cosine-top lat = shortSine-top (omega arith)
 pub cosine-off : (lat : ℤ) → natAbs lat < quarter → 1 ≤ shortCosine lat
 unfolding shortCosine
 cosine-off lat h = shortSine-some {a = quarter - natAbs lat} (omega arith) (omega arith)
+
+pub cosine-test : (lat : ℤ) → natAbs lat < quarter → leZ (pos 1) (pos (shortCosine lat)) ≡ true
+cosine-test lat h = le-leb 1 (shortCosine lat) (cosine-off lat h)
 
 pub cosine-pole : (lat : ℤ) → natAbs lat ≡ quarter → shortCosine lat ≡ 0
 unfolding shortCosine
@@ -37,15 +49,6 @@ unfolding shortCosine
 cosine-mirror (pos zero) = refl
 cosine-mirror (pos (suc n)) = refl
 cosine-mirror (negsuc n) = refl
-
--- dropping toward zero keeps the sign
-quot-as : (z : ℤ) (n k : ℕ) → quotZ (signAs z n) (pos k) ≡ signAs z (n / k)
-quot-as (pos m) n k = refl
-quot-as (negsuc m) zero k = rw (zero-div k)
-quot-as (negsuc m) (suc n) k = refl
-
-pub short-sign : (a : ℤ) → signedShortSine a ≡ signAs a (shortSine (natAbs a))
-short-sign a = quot-as a (longSine (natAbs a)) shortening
 
 -- "Long sine lies within ±10^13 and is strictly increasing over ticks."
 pub long-within : (a : ℤ) → isLatitude a ≡ true → natAbs (signedLongSine a) ≤ unit

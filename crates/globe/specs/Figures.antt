@@ -1,25 +1,32 @@
 -- Figures of the document, proved about the definitions. Those about the table alone stand in sines.
 -- Assumes nothing.
 use mathlib.Core.Path.{_≡_, refl, ap, _∙_}
-use Prim.Native.Nat.{ℕ, _*_}
+use Prim.Native.Nat.{ℕ, _+_, _*_, _/_, _≤_, _<_}
 use native.Mathlib.Omega.{arith}
+use borrow.Author.Tests.{leb-true, leb-false}
 use lib.IntN.{pos, negℤ}
-use Rattle.sines.specs.Sine.{quarter, shortSine}
-use Rattle.sines.specs.SineLaws.{longSine-zero, longSine-tick, longSine-quarter}
+use Rattle.sines.specs.Table.{sines, sinesFrom, rounded, sineOfStep, twiceCosine, entry}
+use Rattle.sines.specs.Sine.{step, quarter, sineBy, longSine, shortSine}
+use Rattle.sines.specs.SineLaws.{between, shortSine-le, longSine-zero, longSine-tick, longSine-quarter}
+use Rattle.sines.specs.BackLaws.{LastAngle, greatestAngle-meets}
 use Rattle.sines.specs.Back.{greatestAngle}
-use Rattle.sines.specs.Figures.{long-30, long-tenth, greatest-1, greatest-tenth, greatest-90, angle-17454}
+use Rattle.sines.specs.Figures.{long-30, long-tenth, greatest-1, greatest-tenth, greatest-90}
 use Rattle.globe.specs.declared.Place.the-variants.{At}
 use Rattle.globe.specs.declared.Length.the-variants.{Millimetres}
 use Rattle.ticks.specs.Ticks.{offsetOf, pointRefusal}
 use Rattle.globe.specs.Angle.{shortCosine, longSineOf, shortSineOf}
 use Rattle.globe.specs.AngleLaws.{cosine-pole}
-use Rattle.globe.specs.Sheet.{cylinder, sinusoid, cylindricalOf, sinusoidalOf, backOf, cylindricalBackOf, sinusoidalBackOf}
-use Rattle.globe.specs.SheetLaws.{place-is, there-and-back, cylinder-invertible}
-use Rattle.globe.specs.Leg.{chord, millimetres, lengthOf, legLength, legOf}
+use Rattle.globe.specs.Sheet.{cylinder, sinusoid, cylindricalOf, sinusoidalOf, cylindricalBackOf, sinusoidalBackOf}
+use Rattle.globe.specs.SheetLaws.{place-is, there-and-back, cylinder-invertible, back-nobody, back-at, sine-is}
+use Rattle.globe.specs.Leg.{degree, degreeLength, chord, lengthOf, legLength, legOf}
 use Rattle.globe.specs.LegLaws.{root-is, angle-zero}
 use Rattle.globe.specs.Paper.{sinePaper, placePaper, pointPaper, lengthPaper}
 
 -- ---- sines
+
+long-2 : longSine 2 ≡ 34_906
+unfolding sineBy between entry sines sinesFrom rounded sineOfStep twiceCosine
+long-2 = refl
 
 -- "long sine of 1 tick is 17,453"
 pub long-1 : sinePaper (longSineOf (pos 1)) ≡ record { refusal = 0; value = pos 17_453 }
@@ -46,8 +53,13 @@ cylindrical-back-17453 =
 
 -- "(0, 17,454): 11"
 pub cylindrical-back-17454 : pointPaper (cylindricalBackOf (pos 0) (pos 17_454) (pos 0)) ≡ record { refusal = 11; latitude = pos 0; longitude = pos 0 }
-unfolding backOf
-cylindrical-back-17454 = rw angle-17454
+cylindrical-back-17454 = ap pointPaper (back-nobody cylinder (pos 0) (pos 17_454) (pos 0) refl (λ _ e. differs (sine-is (pos 17_454) between-ticks e)))
+  where
+    between-ticks : LastAngle step 17_454 1
+    between-ticks = record { inside = omega arith; low = omega (arith, longSine-tick); high = λ _. omega (arith, long-2) }
+
+    differs : longSine 1 ≡ 17_454 → ⊥
+    differs e = omega (arith, longSine-tick)
 
 -- ---- the sinusoidal sheet
 
@@ -62,24 +74,30 @@ sinusoidal-60-10-paper = ap placePaper sinusoidal-60-10
 
 -- "back with x one more: 11"
 pub sinusoidal-back-one-more : pointPaper (sinusoidalBackOf (pos 50_000_000_000_000_001) (pos 600_000_000) (pos 0)) ≡ record { refusal = 11; latitude = pos 0; longitude = pos 0 }
-unfolding backOf shortCosine
-sinusoidal-back-one-more = rw long-30
+unfolding shortCosine
+sinusoidal-back-one-more =
+    ap pointPaper (back-at sinusoid (pos 50_000_000_000_000_001) (pos 600_000_000) (pos 0) refl (pos 600_000_000) refl refl refl) ∙ rw long-30
 
 -- "sinusoidal back (0, 900,000,000), meridian 5° E: 90° N 5° E"
 pub sinusoidal-back-pole : pointPaper (sinusoidalBackOf (pos 0) (pos 900_000_000) (pos 50_000_000)) ≡ record { refusal = 0; latitude = pos 900_000_000; longitude = pos 50_000_000 }
-unfolding backOf
-sinusoidal-back-pole = rw (cosine-pole (pos 900_000_000) refl)
+sinusoidal-back-pole =
+    ap pointPaper (back-at sinusoid (pos 0) (pos 900_000_000) (pos 50_000_000) refl (pos 900_000_000) refl refl refl) ∙ rw (cosine-pole (pos 900_000_000) refl)
 
 -- "(1, 900,000,000): 11"
 pub sinusoidal-back-beside-pole : pointPaper (sinusoidalBackOf (pos 1) (pos 900_000_000) (pos 50_000_000)) ≡ record { refusal = 11; latitude = pos 0; longitude = pos 0 }
-unfolding backOf
-sinusoidal-back-beside-pole = rw (cosine-pole (pos 900_000_000) refl)
+sinusoidal-back-beside-pole =
+    ap pointPaper (back-at sinusoid (pos 1) (pos 900_000_000) (pos 50_000_000) refl (pos 900_000_000) refl refl refl) ∙ rw (cosine-pole (pos 900_000_000) refl)
 
 -- ---- lengths
 
--- of a chord that is a square, by the greatest angle of its root
-length-by : (r : ℕ) {h u : ℕ} → h ≡ r * r → greatestAngle r ≡ u → lengthPaper (Millimetres (lengthOf h)) ≡ record { refusal = 0; millimetres = millimetres (2 * u) }
-length-by r {h} e g = rw (← root-is {h = h} {r = r} (omega arith) (omega arith), g)
+-- of a chord n, by the greatest angle of its root
+length-at : (n r : ℕ) {h u : ℕ} → h ≡ n → r * r ≤ n → n < (r + 1) * (r + 1) → greatestAngle r ≡ u
+    → lengthPaper (Millimetres (lengthOf h)) ≡ record { refusal = 0; millimetres = 2 * u * degreeLength / degree }
+length-at n r {h} e l k g = rw (← root-is {h = h} {r = r} (omega arith) (omega arith), g)
+
+-- of a chord that is a square
+length-by : (r : ℕ) {h u : ℕ} → h ≡ r * r → greatestAngle r ≡ u → lengthPaper (Millimetres (lengthOf h)) ≡ record { refusal = 0; millimetres = 2 * u * degreeLength / degree }
+length-by r e g = length-at (r * r) r e (omega arith) (omega arith) g
 
 -- along a meridian
 north-by : (m p : ℕ) → chord m p 0 ≡ shortSine p * shortSine p
@@ -104,3 +122,47 @@ length-across-180 = length-by 1_745_328 (rw (longSine-zero, longSine-quarter, lo
 pub length-pole-to-pole : lengthPaper (legOf (pos 900_000_000) (pos 0) (negℤ (pos 900_000_000)) (pos 0)) ≡ record { refusal = 0; millimetres = 20_015_086_860 }
 unfolding legOf legLength pointRefusal
 length-pole-to-pole = length-by 1_000_000_000 (north-by _ quarter ∙ rw longSine-quarter) greatest-90
+
+-- ---- a leg on which every rule tells
+
+-- Not the document's: worked out from its words by another program. The table's first rows give all its sines.
+long-19 : longSine 19 ≡ 331_612
+unfolding sineBy between entry sines sinesFrom rounded sineOfStep twiceCosine
+long-19 = refl
+
+long-108 : longSine 108 ≡ 1_884_955
+unfolding sineBy between entry sines sinesFrom rounded sineOfStep twiceCosine
+long-108 = refl
+
+long-109 : longSine 109 ≡ 1_902_408
+unfolding sineBy between entry sines sinesFrom rounded sineOfStep twiceCosine
+long-109 = refl
+
+long-81622 : longSine 81_622 ≡ 1_424_572_613
+unfolding sineBy between entry sines sinesFrom rounded sineOfStep twiceCosine
+long-81622 = refl
+
+long-81661 : longSine 81_661 ≡ 1_425_253_291
+unfolding sineBy between entry sines sinesFrom rounded sineOfStep twiceCosine
+long-81661 = refl
+
+long-758071 : longSine 758_071 ≡ 13_230_830_926
+unfolding sineBy between entry sines sinesFrom rounded sineOfStep twiceCosine
+long-758071 = refl
+
+greatest-189 : greatestAngle 189 ≡ 108
+greatest-189 = omega (arith, less, more)
+  where
+    less : greatestAngle 189 < 108 → ⊥
+    less l = omega (arith, long-108, leb-false (shortSine 108) 189 (greatestAngle-meets 189 .later 108 l (omega arith)))
+
+    more : 108 < greatestAngle 189 → ⊥
+    more l =
+        let g = greatestAngle-meets 189 in
+        omega (arith, long-109, leb-true (shortSine (greatestAngle 189)) 189 (g .holds), shortSine-le {a = 109} l (g .inside))
+
+-- p is 19 and a half, q 758,071 and a half, m 20.3, H 36,099.97 (the next number is a square) and the length 2,401.81. Rounded up, each of the first four gives
+-- another length, and so do the length rounded up, the next root, the next angle and the long way round.
+pub length-drops : lengthPaper (legOf (pos 899_918_378) (pos 1_799_450_233) (pos 899_918_339) (negℤ (pos 1_799_033_624))) ≡ record { refusal = 0; millimetres = 2_401 }
+unfolding legOf legLength pointRefusal shortCosine
+length-drops = length-at 36_099 189 (rw (long-81622, long-81661, long-19, long-758071)) (omega arith) (omega arith) greatest-189

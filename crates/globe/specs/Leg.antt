@@ -1,6 +1,6 @@
 -- The length of a leg: (5-3a) of the manual in whole numbers.
 -- Assumes nothing.
-use Prim.Native.Nat.{ℕ, zero, suc, _+_, _-_, _*_, _/_, min}
+use Prim.Native.Nat.{ℕ, _+_, _-_, _*_, _/_, min}
 use lib.Dec.{leb}
 use lib.IntN.{ℤ, natAbs, _-ℤ_}
 use Rattle.sines.specs.Sine.{shortSine, shortUnit}
@@ -8,7 +8,7 @@ use Rattle.sines.specs.Greatest.{greatest}
 use Rattle.sines.specs.Back.{greatestAngle}
 use Rattle.globe.specs.declared.Length.{Length}
 use Rattle.globe.specs.declared.Length.the-variants.{Millimetres, Refused}
-use Rattle.refusals.specs.Choice.{firstOf}
+use Rattle.refusals.specs.Choice.{firstOf, answered}
 use Rattle.ticks.specs.Ticks.{fullTurn, pointRefusal}
 use Rattle.globe.specs.Angle.{shortCosine}
 
@@ -19,10 +19,6 @@ halfNorth lat lat′ = natAbs (lat -ℤ lat′) / 2
 -- "half of the smaller of d and 3,600,000,000 - d, dropping a half, where d is the size of the longitude difference"
 abbrev pub halfEast : ℤ → ℤ → ℕ
 halfEast lon lon′ = min (natAbs (lon -ℤ lon′)) (fullTurn - natAbs (lon -ℤ lon′)) / 2
-
--- "the product of the two short cosines divided by 10^9, floored"
-abbrev pub cosines : ℕ → ℕ → ℕ
-cosines c c′ = c * c′ / shortUnit
 
 -- "H = (short sine of p)² + floor(m × (short sine of q)² / 10^9)"
 abbrev pub chord : ℕ → ℕ → ℕ → ℕ
@@ -39,23 +35,14 @@ degree = 10_000_000
 abbrev pub degreeLength : ℕ
 degreeLength = 111_194_927
 
-abbrev pub millimetres : ℕ → ℕ
-millimetres arc = arc * degreeLength / degree
-
 -- "Let u be the greatest angle from 0 to 90 degrees whose short sine is at most r. The arc is 2u ticks."
 abbrev pub lengthOf : ℕ → ℕ
-lengthOf h = millimetres (2 * greatestAngle (rootOf h))
+lengthOf h = 2 * greatestAngle (rootOf h) * degreeLength / degree
 
+-- m is "the product of the two short cosines divided by 10^9, floored"
 unfoldable pub legLength : ℤ → ℤ → ℤ → ℤ → ℕ
-legLength lat lon lat′ lon′ = lengthOf (chord (cosines (shortCosine lat) (shortCosine lat′)) (halfNorth lat lat′) (halfEast lon lon′))
-
--- ---- what is answered
-
--- a length, but for what refuses it
-abbrev pub measured : ℕ → ℕ → Length
-measured zero length = Millimetres length
-measured (suc n) length = Refused (suc n)
+legLength lat lon lat′ lon′ = lengthOf (chord (shortCosine lat * shortCosine lat′ / shortUnit) (halfNorth lat lat′) (halfEast lon lon′))
 
 -- "Length: 6 and 7 of the first point, then of the second."
 unfoldable pub legOf : ℤ → ℤ → ℤ → ℤ → Length
-legOf lat lon lat′ lon′ = measured (firstOf (pointRefusal lat lon) (pointRefusal lat′ lon′)) (legLength lat lon lat′ lon′)
+legOf lat lon lat′ lon′ = answered (firstOf (pointRefusal lat lon) (pointRefusal lat′ lon′)) Refused (Millimetres (legLength lat lon lat′ lon′))

@@ -1,30 +1,31 @@
 -- Laws of a leg: the root, the product that is exact before its division, what bounds each part, and three theorems about a
 -- leg's length: it is the same both ways, 0 from a point to itself, and at most half a turn's.
 -- Assumes nothing.
-use mathlib.Core.Path.{_≡_, refl, sym, ap, _∙_}
+use mathlib.Core.Path.{_≡_, sym, ap, _∙_}
 use mathlib.Core.Bool.{true}
-use Prim.Native.Nat.{ℕ, zero, suc, _+_, _*_, _/_, _%_, _≤_, _<_}
-use native.Mathlib.Nat.{le-of-lt, le-trans, mul-comm, mul-add, mul-left-comm, mul-le-mul, mod-lt, div-add-mod, mul-add-div, div-le-of-le-mul, le-mul-of-pos-right}
+use Prim.Native.Nat.{ℕ, zero, suc, _+_, _-_, _*_, _/_, _%_, _≤_, _<_, min}
+use native.Mathlib.Nat.{lt-of-not-le, le-of-lt, le-trans, mul-comm, mul-add, mul-left-comm, mul-le-mul, mod-lt, div-add-mod, mul-add-div, div-le-of-le-mul, le-mul-of-pos-right}
+use native.Mathlib.Decide.{decLe}
 use native.Mathlib.Omega.{arith}
 use lib.Dec.{leb}
 use lib.IntN.{ℤ, natAbs, _-ℤ_}
-use borrow.Author.Tests.{le-leb, lt-leb, leb-true}
+use borrow.Author.Tests.{le-leb, lt-leb, leb-true, leb-false}
 use mir.Syntax.{w32, w64}
 use mir.Val.{SFits, toZ, ofZ}
 use mir.Facts.{toZ-ofZ}
-use Rattle.signed.specs.Sides.{one-side, sub-sides, size-sides}
+use Rattle.signed.specs.Sides.{above, below, one-side, sub-sides, size-sides}
 use Rattle.signed.specs.Machine.{at64, sub-fits}
 use Rattle.sines.specs.Sine.{quarter, shortUnit, shortSine}
 use Rattle.sines.specs.SineLaws.{longSine-zero, shortSine-top, shortSine-some}
-use Rattle.sines.specs.Greatest.{greatest-is}
+use Rattle.sines.specs.Greatest.{IsGreatest}
+use Rattle.sines.specs.GreatestLaws.{greatest-is, greatest-meets}
 use Rattle.sines.specs.Back.{greatestAngle}
 use Rattle.sines.specs.BackLaws.{greatestAngle-meets}
-use Rattle.globe.specs.declared.Length.the-variants.{Millimetres, Refused}
-use Rattle.ticks.specs.Ticks.{fullTurn, isLatitude, isLongitude, pointRefusal}
-use Rattle.ticks.specs.TickLaws.{latitude, longitude}
+use Rattle.ticks.specs.Ticks.{fullTurn, isLatitude, isLongitude, turned, offsetOf}
+use Rattle.ticks.specs.TickLaws.{turned-how, latitude, longitude, is-longitude, offset-longitude}
 use Rattle.globe.specs.Angle.{shortCosine}
 use Rattle.globe.specs.AngleLaws.{cosine-top}
-use Rattle.globe.specs.Leg.{halfNorth, halfEast, cosines, chord, rootOf, legLength, measured, legOf}
+use Rattle.globe.specs.Leg.{halfNorth, halfEast, chord, rootOf, lengthOf, legLength}
 
 -- ---- the root
 
@@ -43,6 +44,20 @@ root-is {h} {r} l u =
   where
     past : (v : ℕ) → r < v → h < v * v
     past v m = let l : r + 1 ≤ v = omega arith in omega (arith, mul-le-mul l l)
+
+root-meets : (h : ℕ) → IsGreatest (λ r. leb (r * r) h) h (rootOf h)
+unfolding rootOf
+root-meets h = greatest-meets (λ r. leb (r * r) h) (le-leb 0 h (omega arith))
+
+pub root-low : (h : ℕ) → rootOf h * rootOf h ≤ h
+root-low h = leb-true (rootOf h * rootOf h) h (root-meets h .holds)
+
+pub root-high : (h : ℕ) → h < (rootOf h + 1) * (rootOf h + 1)
+root-high h = go (decLe (rootOf h + 1) h)
+  where
+    go : Dec (rootOf h + 1 ≤ h) → h < (rootOf h + 1) * (rootOf h + 1)
+    go (yes l) = leb-false _ h (root-meets h .later (rootOf h + 1) (omega arith) l)
+    go (no f) = omega (arith, lt-of-not-le f)
 
 -- ---- m × s / d by the parts of s, where m × s itself does not fit
 
@@ -91,11 +106,6 @@ greatestChord = 2 * shortUnit * shortUnit
 pub chord-top : (m p q : ℕ) → m ≤ shortUnit → p ≤ quarter → q ≤ quarter → chord m p q ≤ greatestChord
 chord-top m p q h k l = omega (arith, square-top k, whole {m = m} (omega arith) h (square-top l))
 
--- a refusal is what is answered
-pub refused : (r n : ℕ) → (r ≡ 0 → ⊥) → Refused r ≡ measured r n
-refused zero n f = absurd (f refl)
-refused (suc r) n f = refl
-
 -- ---- three theorems
 
 -- a leg is as long one way as the other
@@ -106,11 +116,6 @@ swap a b =
 pub both-ways : (lat lon lat′ lon′ : ℤ) → legLength lat lon lat′ lon′ ≡ legLength lat′ lon′ lat lon
 unfolding legLength
 both-ways lat lon lat′ lon′ = cc (swap lat lat′, swap lon lon′, mul-comm (shortCosine lat) (shortCosine lat′))
-
-pub leg-both-ways : (lat lon lat′ lon′ : ℤ) → pointRefusal lat lon ≡ 0 → pointRefusal lat′ lon′ ≡ 0
-    → legOf lat lon lat′ lon′ ≡ legOf lat′ lon′ lat lon
-unfolding legOf
-leg-both-ways lat lon lat′ lon′ p q = rw (p, q) (ap Millimetres (both-ways lat lon lat′ lon′))
 
 -- a leg from a point to itself has no length
 none : (a : ℤ) → natAbs (a -ℤ a) ≡ 0
@@ -127,14 +132,10 @@ angle-zero = omega (arith, past)
 pub same-point : (lat lon : ℤ) → legLength lat lon lat lon ≡ 0
 unfolding legLength
 same-point lat lon =
-    let m = cosines (shortCosine lat) (shortCosine lat) in
+    let m = shortCosine lat * shortCosine lat / shortUnit in
     let c : chord m 0 0 ≡ 0 = rw longSine-zero (omega arith) in
     let r : rootOf 0 ≡ 0 = sym (root-is {h = 0} {r = 0} (omega arith) (omega arith)) in
     rw (none lat, none lon) (rw (c, r, angle-zero))
-
-pub leg-same-point : (lat lon : ℤ) → pointRefusal lat lon ≡ 0 → legOf lat lon lat lon ≡ Millimetres 0
-unfolding legOf
-leg-same-point lat lon p = rw p (ap Millimetres (same-point lat lon))
 
 -- no leg is longer than half a turn
 abbrev pub longestLeg : ℕ
@@ -143,4 +144,39 @@ longestLeg = 20_015_086_860
 pub longest : (lat lon lat′ lon′ : ℤ) → legLength lat lon lat′ lon′ ≤ longestLeg
 unfolding legLength
 longest lat lon lat′ lon′ =
-    omega (arith, greatestAngle-meets (rootOf (chord (cosines (shortCosine lat) (shortCosine lat′)) (halfNorth lat lat′) (halfEast lon lon′))) .inside)
+    omega (arith, greatestAngle-meets (rootOf (chord (shortCosine lat * shortCosine lat′ / shortUnit) (halfNorth lat lat′) (halfEast lon lon′))) .inside)
+
+-- ---- longitudes counted from another meridian
+
+-- two differences that are whole turns apart, j - 2 of them, and both less than a turn
+east-turned : (d e : ℤ) (j : ℕ) → above e + below d + 2 * fullTurn ≡ above d + below e + j * fullTurn → natAbs d < fullTurn → natAbs e < fullTurn
+    → min (natAbs e) (fullTurn - natAbs e) ≡ min (natAbs d) (fullTurn - natAbs d)
+east-turned d e j h k l = go j h (size-sides d) (size-sides e) (one-side d) (one-side e)
+  where
+    go : (j : ℕ) → above e + below d + 2 * fullTurn ≡ above d + below e + j * fullTurn → natAbs d ≡ above d + below d → natAbs e ≡ above e + below e
+        → min (above d) (below d) ≡ 0 → min (above e) (below e) ≡ 0
+        → min (natAbs e) (fullTurn - natAbs e) ≡ min (natAbs d) (fullTurn - natAbs d)
+    go zero h s t a b = omega arith
+    go (suc zero) h s t a b = omega arith
+    go (suc (suc zero)) h s t a b = omega arith
+    go (suc (suc (suc zero))) h s t a b = omega arith
+    go (suc (suc (suc (suc n)))) h s t a b = omega arith
+
+module _ (lon lon′ meridian : ℤ) (p : isLongitude lon ≡ true) (q : isLongitude lon′ ≡ true) (m : isLongitude meridian ≡ true) where
+  east-from : halfEast (offsetOf lon meridian) (offsetOf lon′ meridian) ≡ halfEast lon lon′
+  unfolding offsetOf
+  east-from =
+      let o = turned (lon -ℤ meridian) in
+      let o′ = turned (lon′ -ℤ meridian) in
+      let t = turned-how (lon -ℤ meridian) in
+      let t′ = turned-how (lon′ -ℤ meridian) in
+      let j = t .k + 2 - t′ .k in
+      let e : above (o -ℤ o′) + below (lon -ℤ lon′) + 2 * fullTurn ≡ above (lon -ℤ lon′) + below (o -ℤ o′) + j * fullTurn
+      = omega (arith, t .few, t′ .few, t .apart, t′ .apart, sub-sides lon meridian, sub-sides lon′ meridian, sub-sides lon lon′, sub-sides o o′) in
+      let far = east-apart (offsetOf lon meridian) (offsetOf lon′ meridian) (is-longitude o (offset-longitude lon meridian p m)) (is-longitude o′ (offset-longitude lon′ meridian q m)) in
+      ap (λ (n : ℕ). n / 2) (east-turned (lon -ℤ lon′) (o -ℤ o′) j e (east-apart lon lon′ p q) far)
+
+pub offset-length : (lat lon lat′ lon′ meridian : ℤ) → isLongitude lon ≡ true → isLongitude lon′ ≡ true → isLongitude meridian ≡ true
+    → legLength lat (offsetOf lon meridian) lat′ (offsetOf lon′ meridian) ≡ legLength lat lon lat′ lon′
+unfolding legLength
+offset-length lat lon lat′ lon′ meridian p q m = ap (λ (e : ℕ). lengthOf (chord (shortCosine lat * shortCosine lat′ / shortUnit) (halfNorth lat lat′) e)) (east-from lon lon′ meridian p q m)

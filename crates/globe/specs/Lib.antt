@@ -9,5 +9,5 @@ pub mod Newton
 pub mod Measure
 pub mod MeasureLaws
 pub mod Paper
-pub mod Unique
+pub mod Promises
 pub mod Figures

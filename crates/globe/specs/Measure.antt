@@ -3,11 +3,12 @@
 use Prim.Native.Nat.{ℕ, zero, suc, _+_, _-_}
 use mathlib.Core.List.{List}
 use lib.IntN.{ℤ, pos}
-use Rattle.refusals.specs.Choice.{if_then_else_}
+use Rattle.refusals.specs.Choice.{if_then_else_, answered}
 use Rattle.signed.specs.Tests.{eqZ}
 use Rattle.points.specs.Points.{latitudeAt, longitudeAt, thirdAt, count, bufferRefusal}
 use Rattle.globe.specs.declared.Length.{Length}
-use Rattle.globe.specs.Leg.{legLength, measured}
+use Rattle.globe.specs.declared.Length.the-variants.{Millimetres, Refused}
+use Rattle.globe.specs.Leg.{legLength}
 
 -- the leg into point i, "the leg into the next point not counted" where the pen was up
 unfoldable pub legInto : List ℤ → ℕ → ℕ
@@ -21,4 +22,4 @@ lengthUpTo b zero = 0
 lengthUpTo b (suc n) = lengthUpTo b n + legInto b n
 
 unfoldable pub measureOf : List ℤ → Length
-measureOf b = measured (bufferRefusal b) (lengthUpTo b (count b))
+measureOf b = answered (bufferRefusal b) Refused (Millimetres (lengthUpTo b (count b)))

@@ -1,46 +1,31 @@
 -- Each answer in the paper's own numbers: its refusal, 0 where there is none, and its values, 0 beside a refusal.
 -- Assumes nothing.
-use Prim.Native.Nat.{ℕ}
-use lib.IntN.{ℤ, pos}
+use lib.IntN.{pos}
 use Rattle.globe.specs.declared.Sine.{Sine}
 use Rattle.globe.specs.declared.Sine.the-variants as S
+use Rattle.globe.specs.declared.SineOut.{SineOut}
 use Rattle.globe.specs.declared.Place.{Place}
 use Rattle.globe.specs.declared.Place.the-variants as P
+use Rattle.globe.specs.declared.PlaceOut.{PlaceOut}
 use Rattle.globe.specs.declared.Point.{Point}
 use Rattle.globe.specs.declared.Point.the-variants as Q
+use Rattle.globe.specs.declared.PointOut.{PointOut}
 use Rattle.globe.specs.declared.Length.{Length}
 use Rattle.globe.specs.declared.Length.the-variants as L
+use Rattle.globe.specs.declared.LengthOut.{LengthOut}
 
-pub record SinePaper : Type 0 where
-  pub refusal : ℕ
-  pub value : ℤ
-
-abbrev pub sinePaper : Sine → SinePaper
+abbrev pub sinePaper : Sine → SineOut
 sinePaper (S.Value v) = record { refusal = 0; value = v }
 sinePaper (S.Refused n) = record { refusal = n; value = pos 0 }
 
-pub record PlacePaper : Type 0 where
-  pub refusal : ℕ
-  pub x : ℤ
-  pub y : ℤ
-
-abbrev pub placePaper : Place → PlacePaper
+abbrev pub placePaper : Place → PlaceOut
 placePaper (P.At a b) = record { refusal = 0; x = a; y = b }
 placePaper (P.Refused n) = record { refusal = n; x = pos 0; y = pos 0 }
 
-pub record PointPaper : Type 0 where
-  pub refusal : ℕ
-  pub latitude : ℤ
-  pub longitude : ℤ
-
-abbrev pub pointPaper : Point → PointPaper
+abbrev pub pointPaper : Point → PointOut
 pointPaper (Q.At a b) = record { refusal = 0; latitude = a; longitude = b }
 pointPaper (Q.Refused n) = record { refusal = n; latitude = pos 0; longitude = pos 0 }
 
-pub record LengthPaper : Type 0 where
-  pub refusal : ℕ
-  pub millimetres : ℕ
-
-abbrev pub lengthPaper : Length → LengthPaper
+abbrev pub lengthPaper : Length → LengthOut
 lengthPaper (L.Millimetres n) = record { refusal = 0; millimetres = n }
 lengthPaper (L.Refused n) = record { refusal = n; millimetres = 0 }

@@ -46,6 +46,33 @@ pub enum Length {
     Refused(u32),
 }
 
+// Each answer in the paper's own numbers: the refusal, 0 where there is none, and the values, 0 beside a refusal. This is what goes out to C.
+#[repr(C)]
+pub struct SineOut {
+    pub refusal: u32,
+    pub value: i64,
+}
+
+#[repr(C)]
+pub struct PlaceOut {
+    pub refusal: u32,
+    pub x: i64,
+    pub y: i64,
+}
+
+#[repr(C)]
+pub struct PointOut {
+    pub refusal: u32,
+    pub latitude: i32,
+    pub longitude: i32,
+}
+
+#[repr(C)]
+pub struct LengthOut {
+    pub refusal: u32,
+    pub millimetres: u64,
+}
+
 // 10^13 times the sine of an angle from -90 to 90 degrees.
 pub fn long_sine(angle: i32) -> Sine
     ensures { λ r. ⌜ r ≡ longSineOf angle ⌝ }

@@ -2,7 +2,8 @@
 ghost use mathlib.Core.Path.{_≡_};
 ghost use Rattle.sines.specs.Table.{sines};
 ghost use Rattle.sines.specs.Sine.{step};
-ghost use Rattle.sines.specs.Back.{LastRow, LastAngle, greatestAngle};
+ghost use Rattle.sines.specs.BackLaws.{LastRow, LastAngle};
+ghost use Rattle.sines.specs.Back.{greatestAngle};
 use crate::SHORT_UNIT;
 use crate::lookup::QUARTER;
 use crate::lookup::ROWS;

@@ -1,25 +1,33 @@
 -- Laws of digits: those that stand first in a text, how they are walked from the left, and how large a number they make.
 -- Assumes nothing.
 use mathlib.Core.Path.{_≡_, refl, sym, ap, subst, _∙_}
-use mathlib.Core.Bool.{true, false, _&&_}
-use mathlib.Core.List.{List, [], _∷_}
+use mathlib.Core.Bool.{Bool, true, false, _&&_}
+use mathlib.Core.List.{List, [], _∷_, _++_}
 use Prim.Native.Nat.{ℕ, zero, suc, _+_, _-_, _*_, _^_, _≤_, _<_}
-use native.Mathlib.Nat.{zero-add, add-zero, add-suc, suc-add, lt-of-lt-of-le, mul-le-mul-right, one-le-pow, pow-suc, pow-le-pow-right}
+use native.Mathlib.Nat.{lt-of-lt-of-le, mul-le-mul-right, one-le-pow, pow-suc, pow-le-pow-right}
 use native.Mathlib.Numerals.{add-one}
 use native.Mathlib.Omega.{arith}
 use borrow.Author.Tests.{ltb-false, leb-true, le-leb, ne-eqb}
 use lib.Dec.{T, eqb, ltb, leb, lit<}
-use lib.ListN.{length, take, drop, getD, drop-of-length-le}
+use lib.ListN.{length, take, drop, getD, length-append, drop-of-length-le}
 use lib.Pow.{pow-add}
 use lib.Seq.{drop-cons, take-length}
 use Rattle.refusals.specs.Choice.{if_then_else_}
 use Rattle.refusals.specs.Tests.{by-test, and-true}
-use Rattle.numbers.specs.Pieces.{onto, split, indexOf}
-use Rattle.numbers.specs.Number.{isDigit, allDigits, areDigits, valueFrom, valueOf}
+use Rattle.numbers.specs.Pieces.{indexOf, holds}
+use Rattle.numbers.specs.Number.{allDigits, areDigits, valueOf}
 
 -- what fits 64 bits with its sign
 abbrev pub mostDigits : ℕ
 mostDigits = 18
+
+abbrev pub isDigit : ℕ → Bool
+isDigit b = leb 48 b && leb b 57
+
+-- the digits read from the left, after those that make v
+abbrev pub valueFrom : ℕ → List ℕ → ℕ
+valueFrom v [] = v
+valueFrom v (b ∷ s) = valueFrom (v * 10 + (b - 48)) s
 
 -- the digits that stand first, at most so many
 abbrev pub leading : ℕ → List ℕ → List ℕ
@@ -117,12 +125,15 @@ leading-longest (suc most) (suc i) (x ∷ s) h k e =
 
 pub are-digits : (most : ℕ) (s : List ℕ) → areDigits most s ≡ true → (1 ≤ length s) × (length s ≤ most) × (allDigits s ≡ true)
 are-digits most s e =
-    let o = and-true (leb 1 (length s)) (leb (length s) most && allDigits s) e in
-    let t = and-true (leb (length s) most) (allDigits s) (o .1) in
-    (leb-true _ _ (o .0), leb-true _ _ (t .0), t .1)
+    let o = and-true (leb 1 (length s) && leb (length s) most) (allDigits s) e in
+    let t = and-true (leb 1 (length s)) (leb (length s) most) (o .0) in
+    (leb-true _ _ (t .0), leb-true _ _ (t .1), o .1)
+
+pub digits-are : (most : ℕ) (s : List ℕ) → 1 ≤ length s → length s ≤ most → allDigits s ≡ true → areDigits most s ≡ true
+digits-are most s h k e = rw (le-leb 1 (length s) h, le-leb (length s) most k) e
 
 pub leading-are : (most : ℕ) (s : List ℕ) → 1 ≤ length (leading most s) → areDigits most (leading most s) ≡ true
-leading-are most s h = rw (le-leb 1 (length (leading most s)) h, le-leb (length (leading most s)) most (leading-most most s), leading-all most s)
+leading-are most s h = digits-are most (leading most s) h (leading-most most s) (leading-all most s)
 
 -- all of it, where as many digits stand first
 pub leading-whole : (most : ℕ) (s : List ℕ) → length (leading most s) ≡ length s → leading most s ≡ s
@@ -134,26 +145,33 @@ leading-whole most s e = leading-take most s ∙ rw e (take-length s)
 pub join-below : (w p m n : ℕ) → m < 10 ^ w → n < 10 ^ p → m * 10 ^ p + n < 10 ^ (w + p)
 join-below w p m n h k = rw (pow-add 10 w p) (omega (arith, mul-le-mul-right (10 ^ p) h))
 
-pub value-below : (s : List ℕ) (i v : ℕ) → v < 10 ^ i → allDigits s ≡ true → valueFrom v s < 10 ^ (i + length s)
-value-below [] i v h e = rw add-zero h
-value-below (b ∷ s) i v h e =
+pub value-below : (s : List ℕ) → allDigits s ≡ true → valueOf s < 10 ^ length s
+value-below [] e = lit< tt
+value-below (b ∷ s) e =
     let t = and-true (isDigit b) (allDigits s) e in
     let r = digit-range b (t .0) in
-    let k : v * 10 + (b - 48) < 10 ^ suc i = rw pow-suc (omega arith) in
-    rw (add-suc, ← suc-add) (value-below s (suc i) (v * 10 + (b - 48)) k (t .1))
+    let k : b - 48 ≤ 9 = omega arith in
+    rw pow-suc (omega (arith, value-below s (t .1), mul-le-mul-right (10 ^ length s) k))
 
 -- digits read on from v: v in front of what they make alone
 pub value-from : (s : List ℕ) (v : ℕ) → valueFrom v s ≡ v * 10 ^ length s + valueOf s
 value-from [] v = omega arith
-value-from (b ∷ s) v =
-    rw (pow-suc) (omega (arith, value-from s (v * 10 + (b - 48)), value-from s (0 * 10 + (b - 48))))
+value-from (b ∷ s) v = rw pow-suc (omega (arith, value-from s (v * 10 + (b - 48))))
+
+pub value-first : (s : List ℕ) → valueFrom 0 s ≡ valueOf s
+value-first s = omega (arith, value-from s 0)
+
+-- two runs of digits, one after the other
+pub value-append : (s t : List ℕ) → valueOf (s ++ t) ≡ valueOf s * 10 ^ length t + valueOf t
+value-append [] t = omega arith
+value-append (b ∷ s) t = rw (length-append s t, pow-add 10 (length s) (length t)) (omega (arith, value-append s t))
 
 module _ (most : ℕ) (s : List ℕ) (e : areDigits most s ≡ true) where
   few : length s ≤ most
   few = are-digits most s e .1
 
   own-below : valueOf s < 10 ^ length s
-  own-below = rw zero-add at (value-below s 0 0 (lit< tt) (are-digits most s e .2))
+  own-below = value-below s (are-digits most s e .2)
 
   pub wholes-below : valueOf s < 10 ^ most
   wholes-below = lt-of-lt-of-le own-below (pow-le-pow-right (lit< tt) few)
@@ -166,10 +184,10 @@ module _ (most : ℕ) (s : List ℕ) (e : areDigits most s ≡ true) where
 
 -- ---- among them
 
--- digits hold no mark that is no digit
-pub all-one : (b : ℕ) (s : List ℕ) → isDigit b ≡ false → allDigits s ≡ true → split b s ≡ s ∷ []
-all-one b [] h e = refl
-all-one b (x ∷ s) h e =
+-- digits hold no byte that is no digit
+pub digits-free : (o : ℕ) (s : List ℕ) → isDigit o ≡ false → allDigits s ≡ true → holds o s ≡ false
+digits-free o [] h e = refl
+digits-free o (x ∷ s) h e =
     let t = and-true (isDigit x) (allDigits s) e in
-    let n : eqb x b ≡ false = ne-eqb x b (λ q. subst T (sym (t .0) ∙ ap isDigit q ∙ h) tt) in
-    rw n (ap (onto x) (all-one b s h (t .1)))
+    let n : eqb x o ≡ false = ne-eqb x o (λ q. subst T (sym (t .0) ∙ ap isDigit q ∙ h) tt) in
+    rw n (digits-free o s h (t .1))

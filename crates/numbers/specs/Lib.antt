@@ -1,6 +1,11 @@
 pub mod Pieces
 pub mod PieceLaws
 pub mod Number
+pub mod Paper
 pub mod DigitLaws
 pub mod NumberLaws
-pub mod Unique
+pub mod Written
+pub mod WrittenLaws
+pub mod Promises
+pub mod Text
+pub mod Figures

@@ -1,18 +1,18 @@
 -- Laws of the pieces of a text: how a search walks it, and how its pieces follow from the place of the first byte that parts them.
 -- Assumes nothing.
 use mathlib.Core.Path.{_≡_, refl, sym, ap, subst, _∙_}
-use mathlib.Core.Bool.{true, false, _&&_}
-use mathlib.Core.List.{List, [], _∷_}
+use mathlib.Core.Bool.{Bool, true, false, _&&_, _||_}
+use mathlib.Core.List.{List, [], _∷_, _++_}
 use Prim.Native.Nat.{ℕ, zero, suc, _+_, _-_, _≤_, _<_}
 use native.Mathlib.Nat.{zero-add, add-zero, le-of-eq}
 use native.Mathlib.Numerals.{add-one}
 use native.Mathlib.Omega.{arith}
-use borrow.Author.Tests.{eq-eqb, eqb-true, ne-eqb}
-use lib.Dec.{T, eqb}
+use borrow.Author.Tests.{lt-ltb, le-ltb, ltb-true, ltb-false, eq-eqb, eqb-true, ne-eqb}
+use lib.Dec.{T, eqb, ltb, leb·suc-suc}
 use lib.ListN.{length, take, drop, getD, length-drop, drop-of-length-le}
-use lib.Seq.{drop-cons, take-all}
-use Rattle.refusals.specs.Tests.{by-test, and-no}
-use Rattle.numbers.specs.Pieces.{onto, split, indexOf, leads, isByte, same}
+use lib.Seq.{drop-cons, take-all, split-at}
+use Rattle.refusals.specs.Tests.{by-test, clash, and-true, and-no}
+use Rattle.numbers.specs.Pieces.{onto, split, indexOf, holds, isByte, same}
 
 -- what `&s[a..]` holds
 abbrev pub onward : List ℕ → ℕ → List ℕ
@@ -85,6 +85,50 @@ index-least b (x ∷ s) (suc i) h e =
     (λ t. rw t (omega arith))
     (λ t. rw t (omega (arith, index-least b s i (omega arith) e)))
 
+-- ---- whether it stands anywhere
+
+-- it does where the place of the first is a place of the text
+pub holds-index : (b : ℕ) (s : List ℕ) → holds b s ≡ ltb (indexOf b s) (length s)
+holds-index b [] = refl
+holds-index b (x ∷ s) =
+    by-test (eqb x b)
+    (λ t. rw t (sym (lt-ltb 0 (suc (length s)) (omega arith))))
+    (λ t. rw t (holds-index b s ∙ sym (leb·suc-suc (suc (indexOf b s)) (length s))))
+
+pub holds-none : (b : ℕ) (s : List ℕ) → length s ≤ indexOf b s → holds b s ≡ false
+holds-none b s h = holds-index b s ∙ le-ltb _ _ h
+
+pub held-within : (b : ℕ) (s : List ℕ) → holds b s ≡ true → indexOf b s < length s
+held-within b s e = ltb-true _ _ (sym (holds-index b s) ∙ e)
+
+pub none-held : (b : ℕ) (s : List ℕ) → holds b s ≡ false → length s ≤ indexOf b s
+none-held b s e = ltb-false _ _ (sym (holds-index b s) ∙ e)
+
+or-yes : (t : Bool) → t || true ≡ true
+or-yes true = refl
+or-yes false = refl
+
+pub holds-append : (b : ℕ) (s t : List ℕ) → holds b (s ++ t) ≡ holds b s || holds b t
+holds-append b [] t = refl
+holds-append b (x ∷ s) t =
+    by-test (eqb x b)
+    (λ e. rw e)
+    (λ e. rw e (holds-append b s t))
+
+-- a text that has b, cut at its first
+pub first-cut : (b i : ℕ) (s : List ℕ) → i ≡ indexOf b s → i < length s → s ≡ take i s ++ b ∷ drop (suc i) s
+first-cut b i s e h = split-at s i 0 h ∙ ap (λ (x : ℕ). take i s ++ x ∷ drop (suc i) s) (rw e (index-at b s (rw e at h)))
+
+-- wherever it stands
+pub holds-there : (b : ℕ) (a z : List ℕ) → holds b (a ++ b ∷ z) ≡ true
+holds-there b a z = holds-append b a (b ∷ z) ∙ rw (eq-eqb b b refl) (or-yes (holds b a))
+
+-- and only if it does
+pub holds-cut : (b : ℕ) (s : List ℕ) → holds b s ≡ true → (a : List ℕ) × (z : List ℕ) × (s ≡ a ++ b ∷ z)
+holds-cut b s e =
+    let i = indexOf b s in
+    (take i s, drop (suc i) s, first-cut b i s refl (held-within b s e))
+
 -- ---- the pieces
 
 split-first : (b : ℕ) (s : List ℕ) → indexOf b s < length s → split b s ≡ take (indexOf b s) s ∷ split b (drop (suc (indexOf b s)) s)
@@ -123,29 +167,49 @@ split-some b (x ∷ s) =
 
 -- ---- tests of a piece
 
+and-yes : (t : Bool) → t && true ≡ t
+and-yes true = refl
+and-yes false = refl
+
 pub byte-one : (b : ℕ) (s : List ℕ) → length s ≡ 1 → isByte b s ≡ eqb (getD s 0 0) b
 byte-one b [] h = absurd (omega arith)
-byte-one b (x ∷ []) h = refl
+byte-one b (x ∷ []) h = and-yes (eqb x b)
 byte-one b (x ∷ (y ∷ s)) h = absurd (omega arith)
 
 pub byte-other : (b : ℕ) (s : List ℕ) → (length s ≡ 1 → ⊥) → isByte b s ≡ false
 byte-other b [] h = refl
 byte-other b (x ∷ []) h = absurd (h refl)
-byte-other b (x ∷ (y ∷ s)) h = refl
+byte-other b (x ∷ (y ∷ s)) h = and-no (eqb x b) false refl
 
-pub leads-none : (b : ℕ) (s : List ℕ) → length s ≡ 0 → leads b s ≡ false
-leads-none b [] h = refl
-leads-none b (x ∷ s) h = absurd (omega arith)
+-- the first byte of a text
+pub first-none : (b : ℕ) (s : List ℕ) → length s ≡ 0 → isByte b (take 1 s) ≡ false
+first-none b [] h = refl
+first-none b (x ∷ s) h = absurd (omega arith)
 
-pub leads-first : (b : ℕ) (s : List ℕ) → (length s ≡ 0 → ⊥) → leads b s ≡ eqb (getD s 0 0) b
-leads-first b [] h = absurd (h refl)
-leads-first b (x ∷ s) h = refl
+pub first-byte : (b : ℕ) (s : List ℕ) → (length s ≡ 0 → ⊥) → isByte b (take 1 s) ≡ eqb (getD s 0 0) b
+first-byte b [] h = absurd (h refl)
+first-byte b (x ∷ s) h = and-yes (eqb x b)
 
-pub leads-some : (b : ℕ) (s : List ℕ) → leads b s ≡ true → 1 ≤ length s
-leads-some b [] e = absurd (subst T (sym e) tt)
-leads-some b (x ∷ s) e = omega arith
+-- a text that b stands first in
+pub first-is : (b : ℕ) (s : List ℕ) → isByte b (take 1 s) ≡ true → s ≡ b ∷ drop 1 s
+first-is b [] e = absurd (subst T (sym e) tt)
+first-is b (x ∷ s) e = ap (λ (y : ℕ). y ∷ s) (eqb-true x b (sym (and-yes (eqb x b)) ∙ e))
 
 -- ---- two texts
+
+pub same-self : (s : List ℕ) → same s s ≡ true
+same-self [] = refl
+same-self (x ∷ s) = rw (eq-eqb x x refl) (same-self s)
+
+pub same-is : (s t : List ℕ) → same s t ≡ true → s ≡ t
+same-is [] [] e = refl
+same-is [] (y ∷ t) e = clash e refl
+same-is (x ∷ s) [] e = clash e refl
+same-is (x ∷ s) (y ∷ t) e =
+    let p = and-true (eqb x y) (same s t) e in
+    let a = eqb-true x y (p .0) in
+    let b = same-is s t (p .1) in
+    cc
 
 module _ (a b : List ℕ) (i : ℕ) (ha : i < length a) (hb : i < length b) where
   same-at : same (drop i a) (drop i b) ≡ (eqb (getD a i 0) (getD b i 0) && same (drop (suc i) a) (drop (suc i) b))

@@ -1,10 +1,9 @@
 -- "lines ended by LF, fields parted by tabs": the pieces of a text, and tests of a piece.
 -- Assumes nothing.
-use mathlib.Core.Bool.{Bool, true, false, _&&_}
+use mathlib.Core.Bool.{Bool, true, false, _&&_, _||_}
 use mathlib.Core.List.{List, [], _∷_}
 use Prim.Native.Nat.{ℕ, zero, suc}
-use lib.Dec.{ltb, eqb}
-use lib.ListN.{length}
+use lib.Dec.{eqb}
 use Rattle.refusals.specs.Choice.{if_then_else_}
 
 abbrev pub LF : ℕ
@@ -29,21 +28,15 @@ indexOf b (x ∷ s) = if eqb x b then zero else suc (indexOf b s)
 
 -- b stands anywhere
 abbrev pub holds : ℕ → List ℕ → Bool
-holds b s = ltb (indexOf b s) (length s)
-
--- b stands first
-abbrev pub leads : ℕ → List ℕ → Bool
-leads b [] = false
-leads b (x ∷ s) = eqb x b
-
--- the piece is the one byte b
-abbrev pub isByte : ℕ → List ℕ → Bool
-isByte b [] = false
-isByte b (x ∷ []) = eqb x b
-isByte b (x ∷ (y ∷ s)) = false
+holds b [] = false
+holds b (x ∷ s) = eqb x b || holds b s
 
 abbrev pub same : List ℕ → List ℕ → Bool
 same [] [] = true
 same [] (y ∷ t) = false
 same (x ∷ s) [] = false
 same (x ∷ s) (y ∷ t) = eqb x y && same s t
+
+-- the piece is the one byte b
+abbrev pub isByte : ℕ → List ℕ → Bool
+isByte b s = same s (b ∷ [])

@@ -1,13 +1,16 @@
 // Digits: read from the left, with a mark among them, and with a sign.
 ghost use mathlib.Core.Path.{_≡_};
 ghost use Prim.Native.Nat.{_+_, _*_, _^_, _≤_, _<_};
+ghost use lib.IntN.{pos};
 ghost use lib.ListN.{length};
-ghost use Rattle.numbers.specs.Pieces.{split};
-ghost use Rattle.numbers.specs.Number.{namedByte, isDigit, valueFrom, signed};
-ghost use Rattle.numbers.specs.DigitLaws.{mostDigits, leading};
-ghost use Rattle.numbers.specs.NumberLaws.{plainOf};
+ghost use Rattle.numbers.specs.Number.{namedByte};
+ghost use Rattle.numbers.specs.DigitLaws.{mostDigits, isDigit, valueFrom, leading};
+ghost use Rattle.numbers.specs.NumberLaws.{signed, amountOf};
 use crate::Kind;
 use crate::Mark;
+
+// The most digits before the mark.
+const WHOLES: usize = 3;
 
 pub(crate) enum Amount {
     Value(u64),
@@ -66,10 +69,10 @@ fn scaled(n: u64, tens: usize) -> u64
 
 // Digits, then nothing, or the mark and digits.
 pub(crate) fn plain(s: &[u8], kind: Kind, mark: Mark) -> Amount
-    ensures { λ r. ⌜ r ≡ plainOf kind (split (namedByte mark) (now (s .entry))) ⌝ }
+    ensures { λ r. ⌜ r ≡ amountOf kind (namedByte mark) (now (s .entry)) ⌝ }
 {
     let places = kind.places();
-    let whole = leading(s, kind.wholes(), 0);
+    let whole = leading(s, WHOLES, 0);
     let m = whole.count;
     if m == 0 {
         return Amount::Not;
@@ -92,7 +95,7 @@ pub(crate) fn plain(s: &[u8], kind: Kind, mark: Mark) -> Amount
 // So few digits fit 64 bits with either sign.
 pub(crate) fn with_sign(minus: bool, n: u64) -> i64
     requires { ⌜ n < 10 ^ mostDigits ⌝ }
-    ensures { λ r. ⌜ r ≡ signed minus n ⌝ }
+    ensures { λ r. ⌜ r ≡ signed minus (pos n) ⌝ }
 {
     let z = n as i64;
     if minus { 0 - z } else { z }

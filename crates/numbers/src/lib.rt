@@ -1,7 +1,7 @@
 // A number in a text: the decimal marks, the kinds of field, and one field read exactly or refused.
 ghost use mathlib.Core.Path.{_≡_};
-ghost use Rattle.numbers.specs.Number.{namedByte, otherByte, wholes, places, takesMinus, rangeRefusal, numberOf};
-ghost use Rattle.numbers.specs.NumberLaws.{faultOf};
+ghost use Rattle.numbers.specs.Number.{namedByte, otherByte, places, takesMinus, numberOf};
+ghost use Rattle.numbers.specs.NumberLaws.{rangeRefusal, faultOf};
 
 mod digits;
 pub mod pieces;
@@ -58,17 +58,6 @@ impl Mark {
 }
 
 impl Kind {
-    // The most digits before the mark.
-    fn wholes(self) -> usize
-        ensures { λ r. ⌜ r ≡ wholes self ⌝ }
-    {
-        match self {
-            Kind::Latitude => 3,
-            Kind::Longitude => 3,
-            Kind::Target => 3,
-        }
-    }
-
     // The most digits after the mark.
     fn places(self) -> usize
         ensures { λ r. ⌜ r ≡ places self ⌝ }
@@ -107,9 +96,10 @@ fn fault(text: &[u8], mark: Mark) -> u32
     ensures { λ r. ⌜ r ≡ faultOf mark (now (text .entry)) ⌝ }
 {
     if has(text, mark.other()) {
-        return MARK;
+        MARK
+    } else {
+        NUMBER
     }
-    NUMBER
 }
 
 // The number that a field says. A number holds no other mark, so that is looked for only in a field that is none.

@@ -2,8 +2,8 @@
 ghost use mathlib.Core.Path.{_≡_};
 ghost use mathlib.Core.Bool.{true};
 ghost use Prim.Native.Nat.{_+_, _≤_};
-ghost use lib.ListN.{length};
-ghost use Rattle.numbers.specs.Pieces.{indexOf, holds, leads, isByte, same};
+ghost use lib.ListN.{length, take};
+ghost use Rattle.numbers.specs.Pieces.{indexOf, holds, isByte, same};
 ghost use Rattle.numbers.specs.PieceLaws.{stride, NoneBefore};
 
 pub const LF: u8 = 10;
@@ -66,7 +66,7 @@ pub fn has(s: &[u8], b: u8) -> bool
 
 // The first byte is `b`.
 pub(crate) fn starts(s: &[u8], b: u8) -> bool
-    ensures { λ r. ⌜ r ≡ leads b (now (s .entry)) ⌝ }
+    ensures { λ r. ⌜ r ≡ isByte b (take 1 (now (s .entry))) ⌝ }
 {
     if s.len() == 0 {
         return false;

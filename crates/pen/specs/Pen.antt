@@ -13,8 +13,8 @@ use Rattle.globe.specs.Sheet.{sinusoidalOf}
 use Rattle.pen.specs.declared.Window.{Window}
 use Rattle.pen.specs.declared.Pen.{Pen}
 use Rattle.pen.specs.declared.Step.{Step}
+use Rattle.pen.specs.declared.Answer.{Answer}
 use Rattle.pen.specs.declared.Answer.the-variants.{Drawn, Refused}
-use Rattle.pen.specs.declared.Stroke.{Stroke}
 use Rattle.pen.specs.declared.Stroke.the-variants.{Outside, Move, Line}
 use Rattle.refusals.specs.Refusal.{WINDOW, DIVISOR}
 use Rattle.pen.specs.Position.{millimetres, across, float, scaled}
@@ -43,37 +43,24 @@ newPen = up
 
 -- ---- a step
 
--- "Line if the pen was down and the point's third number is 0, otherwise Move (any other third number counts as 1)"
-abbrev pub isJoined : Pen → ℤ → Bool
-isJoined pen third = pen .down && eqZ third (pos 0)
+abbrev pub stepWith : Pen → Answer → Step
+stepWith p a = record { answer = a; next = p }
 
-abbrev pub strokeTo : Bool → Float → Float → Stroke
-strokeTo joined a b = if joined then Line a b else Move a b
+-- "Outside: the pen is up next. Inside: Line if the pen was down and the point's third number is 0, otherwise Move (any other third number
+-- counts as 1); the pen is down next.", "with X and Y as floats before the division"
+unfoldable pub drawn : Pen → Window → ℕ → ℤ → Float → Float → Step
+drawn pen w divisor third x y =
+    if inside w x y then stepWith lowered (Drawn ((if pen .down && eqZ third (pos 0) then Line else Move) (scaled divisor x) (scaled divisor y)))
+    else stepWith up (Drawn Outside)
 
--- "Outside: the pen is up next."
-abbrev pub outside : Step
-outside = record { answer = Drawn Outside; next = up }
-
--- "the pen is down next"
-abbrev pub drew : Stroke → Step
-drew s = record { answer = Drawn s; next = lowered }
-
--- "inside .., with X and Y as floats before the division"
-unfoldable pub drawn : Pen → Window → ℕ → Float → Float → ℤ → Step
-drawn pen w divisor x y third = if inside w x y then drew (strokeTo (isJoined pen third) (scaled divisor x) (scaled divisor y)) else outside
-
--- "the pen step hands back the pen it got"
-abbrev pub refusedWith : Pen → ℕ → Step
-refusedWith pen n = record { answer = Refused n; next = pen }
-
--- at a place of the sheet, or with what refuses the point
-abbrev pub stepAt : Pen → Window → ℕ → ℤ → Place → Step
-stepAt pen w divisor third (P.At x y) = drawn pen w divisor (float (across x)) (float (millimetres y)) third
-stepAt pen w divisor third (P.Refused n) = refusedWith pen n
+-- what is drawn at a place of the sheet, or what refuses the point: "the pen step hands back the pen it got"
+abbrev pub stepAt : Pen → (Float → Float → Step) → Place → Step
+stepAt pen draw (P.At x y) = draw (float (across x)) (float (millimetres y))
+stepAt pen draw (P.Refused n) = stepWith pen (Refused n)
 
 -- "Pen step: 12, 13, 14, 6, 7."
 unfoldable pub stepOf : Pen → Window → ℕ → ℤ → ℤ → ℤ → ℤ → Step
 stepOf pen w divisor meridian lat lon third =
-    unless (isWindow w) (refusedWith pen WINDOW)
-    (unless (isDivisor divisor) (refusedWith pen DIVISOR)
-    (stepAt pen w divisor third (sinusoidalOf lat lon meridian)))
+    unless (isWindow w) (stepWith pen (Refused WINDOW))
+    (unless (isDivisor divisor) (stepWith pen (Refused DIVISOR))
+    (stepAt pen (drawn pen w divisor third) (sinusoidalOf lat lon meridian)))

@@ -5,7 +5,6 @@ use lib.Ieee.{Float, binary64, div, ofInt}
 use lib.IntN.{ℤ, pos, _*ℤ_}
 use lib.Signed.{quotZ}
 use Rattle.sines.specs.Sine.{shortUnit}
-use Rattle.ticks.specs.Ticks.{half}
 use Rattle.globe.specs.Leg.{degree, degreeLength}
 
 -- "× 111,194,927 / 10,000,000 dropping toward zero", of ticks: "Y is latitude" so treated
@@ -18,12 +17,8 @@ across x = millimetres (quotZ x (pos shortUnit))
 
 -- "each as a float"
 abbrev pub float : ℤ → Float
-float z = ofInt binary64 z
+float = ofInt binary64
 
 -- "divided once by the divisor as a float"
 abbrev pub scaled : ℕ → Float → Float
 scaled divisor x = div binary64 x (float (pos divisor))
-
--- no place lies further from the middle than half a turn, in ticks
-abbrev pub furthest : ℕ
-furthest = half

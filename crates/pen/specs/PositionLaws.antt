@@ -1,23 +1,24 @@
 -- Positions: west mirrors east, and a position is the double nearest to the exact quotient, a finite number and never minus zero.
 -- Assumes nothing.
-use mathlib.Core.Path.{_≡_, refl, ap, subst}
+use mathlib.Core.Path.{_≡_, refl, ap, _∙_}
 use mathlib.Core.Bool.{Bool, true, false, not, cond, true≢false}
 use Prim.Native.Nat.{ℕ, zero, suc, _+_, _*_, _^_, _≤_, _<_}
 use native.Mathlib.Nat.{mul-pos, mul-le-mul}
 use native.Mathlib.Omega.{arith}
 use lib.Dec.{T, ltb, lit<, eqb·suc-zero}
-use lib.Ieee.{Float, nan, inf, fin, Format, binary64, prec, emax, low, unlike, up, down, odd, units, round, neg, div, ofInt, isNan}
+use lib.Ieee.{Float, nan, inf, fin, Format, binary64, prec, emax, low, unlike, up, down, odd, units, round, neg, div, eq, ofInt, isNan}
 use lib.Ieee.Fits.{up-pos, down-pos, round-is}
 use lib.Ieee.Exact.{HasValue}
 use lib.Ieee.Back.{round-whole}
 use lib.Ieee.Order.{round-mono}
-use lib.Ieee.Scale.{round-same, finite}
+use lib.Ieee.Scale.{round-same}
 use lib.Ieee.Positive.{positive, positive-of-value, between}
 use lib.IntN.{ℤ, pos, negsuc, negℤ, natAbs, _*ℤ_}
 use lib.Signed.{quotZ}
 use Rattle.signed.specs.Sides.{mul-neg, quot-neg}
 use Rattle.sines.specs.Sine.{shortUnit}
 use Rattle.globe.specs.Leg.{degree, degreeLength}
+use Rattle.pen.specs.FloatLaws.{eq-self}
 use Rattle.pen.specs.Position.{millimetres, across, float, scaled}
 
 -- ---- millimetres
@@ -69,13 +70,23 @@ abbrev pub isNegative : ℤ → Bool
 isNegative (pos n) = false
 isNegative (negsuc n) = true
 
+-- the double nearest to z / d
+abbrev pub nearest : ℕ → ℤ → Float
+nearest d z = round binary64 (isNegative z) (natAbs z) d
+
 float-value : (z : ℤ) → natAbs z ≤ 2 ^ 53 → HasValue (float z) (isNegative z) (natAbs z) 1
 unfolding ofInt
 float-value (pos n) h = round-whole binary64 false n h
 float-value (negsuc n) h = round-whole binary64 true (suc n) h
 
+pub float-number : (z : ℤ) → natAbs z ≤ 2 ^ 53 → isNan (float z) ≡ false
+float-number z h = go (float z) (float-value z h)
+  where
+    go : (x : Float) → HasValue x (isNegative z) (natAbs z) 1 → isNan x ≡ false
+    go (fin s m e) v = unfold isNan in refl
+
 -- a finite number that is not minus zero
-abbrev isPlain : Float → Bool
+abbrev pub isPlain : Float → Bool
 isPlain nan = false
 isPlain (inf s) = false
 isPlain (fin false m e) = true
@@ -99,30 +110,28 @@ module _ (d : ℕ) (least : 1 ≤ d) (most : d ≤ 2 ^ 53) where
       smallest = unfold round in tt
 
   -- the double nearest to the exact quotient
-  pub position-nearest : (z : ℤ) → natAbs z ≤ 2 ^ 53 → scaled d (float z) ≡ round binary64 (isNegative z) (natAbs z) d
+  pub position-nearest : (z : ℤ) → natAbs z ≤ 2 ^ 53 → scaled d (float z) ≡ nearest d z
   position-nearest z h = quotient (float z) (float (pos d)) (isNegative z) (natAbs z) d least (float-value z h) (float-value (pos d) most)
 
-  -- a position mirrors that of the opposite place, but for zero, which has no minus
-  pub position-mirror : (z : ℤ) → 1 ≤ natAbs z → natAbs z ≤ 2 ^ 53 → scaled d (float (negℤ z)) ≡ neg (scaled d (float z))
-  position-mirror (pos zero) p h = absurd (omega arith)
-  position-mirror (pos (suc n)) p h = rw (position-nearest (negsuc n) h, position-nearest (pos (suc n)) h) (round-neg binary64 false (suc n) d)
-  position-mirror (negsuc n) p h = rw (position-nearest (pos (suc n)) h, position-nearest (negsuc n) h) (round-neg binary64 true (suc n) d)
+  zero-is : nearest d (pos 0) ≡ fin false 0 (pos 0)
+  zero-is = round-same binary64 false 0 d 0 1 least (lit< tt) (omega arith) ∙ (unfold round in refl)
 
-  plain : (z : ℤ) → natAbs z ≤ 2 ^ 53 → T (isPlain (scaled d (float z)))
-  plain z h = rw (position-nearest z h) (go z h)
+  nearest-plain : (z : ℤ) → natAbs z ≤ 2 ^ 53 → T (isPlain (nearest d z))
+  nearest-plain (pos zero) h = rw zero-is tt
+  nearest-plain (pos (suc n)) h = round-plain (suc n) (omega arith) h .0
+  nearest-plain (negsuc n) h = rw (round-neg binary64 false (suc n) d) (round-plain (suc n) (omega arith) h .1)
+
+  pub plain : (z : ℤ) → natAbs z ≤ 2 ^ 53 → T (isPlain (scaled d (float z)))
+  plain z h = rw (position-nearest z h) (nearest-plain z h)
+
+  number : (z : ℤ) → natAbs z ≤ 2 ^ 53 → isNan (nearest d z) ≡ false
+  number z h = go (nearest d z) (nearest-plain z h)
     where
-      go : (z : ℤ) → natAbs z ≤ 2 ^ 53 → T (isPlain (round binary64 (isNegative z) (natAbs z) d))
-      go (pos zero) h = rw (round-same binary64 false 0 d 0 1 least (lit< tt) (omega arith)) (unfold round in tt)
-      go (pos (suc n)) h = round-plain (suc n) (omega arith) h .0
-      go (negsuc n) h = rw (round-neg binary64 false (suc n) d) (round-plain (suc n) (omega arith) h .1)
+      go : (x : Float) → T (isPlain x) → isNan x ≡ false
+      go (fin s m e) p = unfold isNan in refl
 
-  -- neither a NaN nor an infinity
-  pub position-number : (z : ℤ) → natAbs z ≤ 2 ^ 53 → (isNan (scaled d (float z)) ≡ false) × T (finite (scaled d (float z)))
-  position-number z h = go (scaled d (float z)) (plain z h)
-    where
-      go : (x : Float) → T (isPlain x) → (isNan x ≡ false) × T (finite x)
-      go (fin s m e) p = (unfold isNan in refl, tt)
-
-  -- nor minus zero
-  pub position-sign : (z : ℤ) → natAbs z ≤ 2 ^ 53 → (e : ℤ) → scaled d (float z) ≡ fin true 0 e → ⊥
-  position-sign z h e p = subst (λ (x : Float). T (isPlain x)) p (plain z h)
+  -- it mirrors that of the opposite place
+  pub nearest-mirror : (z : ℤ) → natAbs z ≤ 2 ^ 53 → eq (nearest d (negℤ z)) (neg (nearest d z)) ≡ true
+  nearest-mirror (pos zero) h = rw (zero-is) (unfold eq neg in refl)
+  nearest-mirror (pos (suc n)) h = rw (← round-neg binary64 false (suc n) d) (eq-self (nearest d (negsuc n)) (number (negsuc n) h))
+  nearest-mirror (negsuc n) h = rw (← round-neg binary64 true (suc n) d) (eq-self (nearest d (pos (suc n))) (number (pos (suc n)) h))

@@ -1,7 +1,7 @@
 -- How far from the middle a place can lie: what is worked out from it fits the machine's numbers, and a float holds it exactly.
 -- Assumes nothing.
 use mathlib.Core.Path.{_≡_}
-use Prim.Native.Nat.{_+_, _*_, _^_, _≤_}
+use Prim.Native.Nat.{ℕ, _+_, _*_, _^_, _≤_}
 use native.Mathlib.Nat.{mul-le-mul}
 use native.Mathlib.Omega.{arith}
 use lib.Dec.{T, le→leb, lt→ltb}
@@ -15,14 +15,18 @@ use Rattle.signed.specs.Machine.{fits-of, quot-fits}
 use Rattle.sines.specs.Sine.{shortUnit}
 use Rattle.globe.specs.Leg.{degree, degreeLength}
 use Rattle.globe.specs.declared.Place.the-variants.{At}
-use Rattle.ticks.specs.Ticks.{isLatitude, isLongitude, offsetOf}
+use Rattle.ticks.specs.Ticks.{half, isLatitude, isLongitude, offsetOf}
 use Rattle.refusals.specs.Tests.{and-true}
 use Rattle.ticks.specs.TickLaws.{latitude-size, offset-longitude}
 use Rattle.globe.specs.Angle.{shortCosine}
 use Rattle.globe.specs.AngleLaws.{cosine-top}
 use Rattle.globe.specs.Sheet.{sinusoid, sinusoidalOf}
 use Rattle.globe.specs.SheetLaws.{place-tells}
-use Rattle.pen.specs.Position.{millimetres, across, furthest}
+use Rattle.pen.specs.Position.{millimetres, across}
+
+-- no place lies further from the middle than half a turn, in ticks
+abbrev pub furthest : ℕ
+furthest = half
 
 -- a whole number of size at most 2^53 is exact as a float
 pub exact : (z : ℤ) → natAbs z ≤ 2 ^ 53 → T (inFloat binary64 z)

@@ -41,6 +41,17 @@ pub struct Step {
     pub next: Pen,
 }
 
+// A step in the paper's numbers, as it goes out at the door for C. stroke: 0 outside, 1 move, 2 line. pen: 0 up, 1 down; beside a refusal
+// the number that came in.
+#[repr(C)]
+pub struct StepOut {
+    pub refusal: u32,
+    pub stroke: u32,
+    pub x: f64,
+    pub y: f64,
+    pub pen: u32,
+}
+
 impl Window {
     // A comparison with a NaN is false, so no edge is one.
     fn is_window(self) -> bool
@@ -73,7 +84,7 @@ impl Pen {
 
     // The step at X and Y, which are millimetres on the sheet; a position is each divided once.
     fn draw(self, window: Window, divisor: u32, x: f64, y: f64, third: i32) -> Step
-        ensures { λ r. ⌜ r ≡ drawn self window divisor x y third ⌝ }
+        ensures { λ r. ⌜ r ≡ drawn self window divisor third x y ⌝ }
     {
         if !window.holds(x, y) {
             return Step {

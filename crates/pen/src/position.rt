@@ -3,7 +3,8 @@ ghost use mathlib.Core.Path.{_≡_};
 ghost use Prim.Native.Nat.{_*_, _≤_};
 ghost use lib.IntN.{natAbs};
 ghost use Rattle.sines.specs.Sine.{shortUnit};
-ghost use Rattle.pen.specs.Position.{millimetres, across, float, furthest};
+ghost use Rattle.pen.specs.Position.{millimetres, across, float};
+ghost use Rattle.pen.specs.Reach.{furthest};
 
 const SHORT_UNIT: i64 = globe::SHORT_UNIT as i64;
 

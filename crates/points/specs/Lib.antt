@@ -1,4 +1,3 @@
 pub mod Points
 pub mod PointLaws
 pub mod Promises
-pub mod Unique

@@ -1,7 +1,7 @@
 -- What is known of an accepted point buffer, that the numbers of points one after the other are accepted, and what a stored point leaves.
 -- Assumes nothing.
 use mathlib.Core.Path.{_≡_, refl}
-use mathlib.Core.Bool.{true, false}
+use mathlib.Core.Bool.{true, false, _&&_}
 use mathlib.Core.List.{List, [], _++_}
 use Prim.Native.Nat.{ℕ, zero, suc, _+_, _*_, _%_, _≤_, _<_}
 use native.Mathlib.Nat.{add-zero, zero-add}
@@ -20,7 +20,7 @@ use Rattle.refusals.specs.Tests.{and-true, true-and, unless-none, first-none}
 use Rattle.signed.specs.Tests.{eqZ}
 use Rattle.ticks.specs.Ticks.{isLatitude, isLongitude, pointRefusal}
 use Rattle.ticks.specs.TickLaws.{point-accepted, latitude-fits, longitude-fits}
-use Rattle.points.specs.Points.{numbers, pointNumbers, partAt, latitudeAt, longitudeAt, thirdAt, count, mostPoints, putAt, fitsAfter, thirdFits, thirdsFit, pointsRefusal, bufferRefusal}
+use Rattle.points.specs.Points.{numbers, pointNumbers, partAt, latitudeAt, longitudeAt, thirdAt, count, mostPoints, putAt, fitsAfter, thirdsFit, pointsRefusal, bufferRefusal}
 
 -- ---- an accepted buffer
 
@@ -33,27 +33,53 @@ pub record Accepted (b : List ℤ) : Type 0 where
 pub accepted : (b : List ℤ) → bufferRefusal b ≡ 0 → Accepted b
 unfolding bufferRefusal
 accepted b e =
-    let p = unless-none (eqb (length b % numbers) 0) BUFFER _ (omega arith) e in
-    let q = unless-none (thirdsFit b (count b)) BUFFER _ (omega arith) (p .1) in
-    let r = unless-none (leb (count b) mostPoints) POINTS _ (omega arith) (q .1) in
-    record { whole = eqb-true _ 0 (p .0); thirds = q .0; few = leb-true _ mostPoints (r .0); points = r .1 }
+    let p = unless-none (eqb (length b % numbers) 0 && thirdsFit b (count b)) BUFFER _ (omega arith) e in
+    let q = and-true (eqb (length b % numbers) 0) (thirdsFit b (count b)) (p .0) in
+    let r = unless-none (leb (count b) mostPoints) POINTS _ (omega arith) (p .1) in
+    record { whole = eqb-true _ 0 (q .0); thirds = q .1; few = leb-true _ mostPoints (r .0); points = r .1 }
 
 pub record Point (b : List ℤ) (i : ℕ) : Type 0 where
   pub latitude : isLatitude (latitudeAt b i) ≡ true
   pub longitude : isLongitude (longitudeAt b i) ≡ true
-  pub third : thirdFits b i ≡ true
+  pub third : fitsAfter i (thirdAt b i) ≡ true
 
-points-of : (b : List ℤ) (n : ℕ) → thirdsFit b n ≡ true → pointsRefusal b n ≡ 0 → (i : ℕ) → i < n → Point b i
-unfolding thirdsFit pointsRefusal
-points-of b zero t e i h = below-none (Point b) i h
-points-of b (suc n) t e i h =
-    let p = and-true (thirdsFit b n) (thirdFits b n) t in
-    let q = first-none (pointsRefusal b n) (pointRefusal (latitudeAt b n) (longitudeAt b n)) e in
-    let a = point-accepted (latitudeAt b n) (longitudeAt b n) (q .1) in
-    below-more (Point b) n (points-of b n (p .0) (q .0)) (record { latitude = a .0; longitude = a .1; third = p .1 }) i (omega arith)
+-- the first n points, one by one
+module _ (b : List ℤ) where
+  abbrev pub Fits : ℕ → Type 0
+  Fits i = fitsAfter i (thirdAt b i) ≡ true
+
+  abbrev pub Unrefused : ℕ → Type 0
+  Unrefused i = pointRefusal (latitudeAt b i) (longitudeAt b i) ≡ 0
+
+  pub thirds-of : (n : ℕ) → thirdsFit b n ≡ true → (i : ℕ) → i < n → Fits i
+  unfolding thirdsFit
+  thirds-of zero t i h = below-none Fits i h
+  thirds-of (suc n) t i h =
+      let p = and-true (thirdsFit b n) (fitsAfter n (thirdAt b n)) t in
+      below-more Fits n (thirds-of n (p .0)) (p .1) i (omega arith)
+
+  pub thirds-fit : (n : ℕ) → ((i : ℕ) → i < n → Fits i) → thirdsFit b n ≡ true
+  unfolding thirdsFit
+  thirds-fit zero h = refl
+  thirds-fit (suc n) h = true-and (thirds-fit n (λ i l. h i (omega arith))) (h n (omega arith))
+
+  pub unrefused-of : (n : ℕ) → pointsRefusal b n ≡ 0 → (i : ℕ) → i < n → Unrefused i
+  unfolding pointsRefusal
+  unrefused-of zero e i h = below-none Unrefused i h
+  unrefused-of (suc n) e i h =
+      let p = first-none (pointsRefusal b n) (pointRefusal (latitudeAt b n) (longitudeAt b n)) e in
+      below-more Unrefused n (unrefused-of n (p .0)) (p .1) i (omega arith)
+
+  none-refused : (n : ℕ) → ((i : ℕ) → i < n → Unrefused i) → pointsRefusal b n ≡ 0
+  unfolding pointsRefusal
+  none-refused zero h = refl
+  none-refused (suc n) h = rw (none-refused n (λ i l. h i (omega arith)), h n (omega arith))
 
 pub point-of : (b : List ℤ) → bufferRefusal b ≡ 0 → (i : ℕ) → i < count b → Point b i
-point-of b e i h = let a = accepted b e in points-of b (count b) (a .thirds) (a .points) i h
+point-of b e i h =
+    let a = accepted b e in
+    let p = point-accepted (latitudeAt b i) (longitudeAt b i) (unrefused-of b (count b) (a .points) i h) in
+    record { latitude = p .0; longitude = p .1; third = thirds-of b (count b) (a .thirds) i h }
 
 -- the machine reads them back
 pub latitude-read : {b : List ℤ} {i : ℕ} → Point b i → toZ w32 (ofZ w32 (latitudeAt b i)) ≡ latitudeAt b i
@@ -63,7 +89,7 @@ pub longitude-read : {b : List ℤ} {i : ℕ} → Point b i → toZ w32 (ofZ w32
 longitude-read p = toZ-ofZ (longitude-fits (p .longitude))
 
 -- a point that a leg leads to is not the first
-pub leg-before : (b : List ℤ) (i : ℕ) → thirdFits b i ≡ true → eqZ (thirdAt b i) (pos 1) ≡ false → 1 ≤ i
+pub leg-before : (b : List ℤ) (i : ℕ) → fitsAfter i (thirdAt b i) ≡ true → eqZ (thirdAt b i) (pos 1) ≡ false → 1 ≤ i
 leg-before b i t e = leb-true 1 i (and-true (leb 1 i) (eqZ (thirdAt b i) (pos 0)) (rw e at t) .0)
 
 -- ---- a list of points is accepted
@@ -96,31 +122,19 @@ points-at (next {k} {lat} {lon} {third} {b} y x t ps) (suc i) h =
     let u : k + suc i ≡ k + 1 + i = omega arith in
     record { latitude = rw (at 0) (p .latitude); longitude = rw (at 1) (p .longitude); third = rw (at 2, u) (p .third) }
 
--- the first n points
-module _ (b : List ℤ) where
-  thirds-fit : (n : ℕ) → ((i : ℕ) → i < n → Point b i) → thirdsFit b n ≡ true
-  unfolding thirdsFit
-  thirds-fit zero h = refl
-  thirds-fit (suc n) h = true-and (thirds-fit n (λ i l. h i (omega arith))) (h n (omega arith) .third)
-
-  none-refused : (n : ℕ) → ((i : ℕ) → i < n → Point b i) → pointsRefusal b n ≡ 0
-  unfolding pointsRefusal pointRefusal
-  none-refused zero h = refl
-  none-refused (suc n) h =
-      let p = h n (omega arith) in
-      rw (none-refused n (λ i l. h i (omega arith)), p .latitude, p .longitude)
-
 module _ {b : List ℤ} (ps : Points 0 b) (few : count b ≤ mostPoints) where
-  all-points : (i : ℕ) → i < count b → Point b i
-  all-points i h =
-      let p = points-at ps i h in
-      record { latitude = p .latitude; longitude = p .longitude; third = rw zero-add at (p .third) }
+  thirds : (i : ℕ) → i < count b → Fits b i
+  thirds i h = rw zero-add at (points-at ps i h .third)
+
+  unrefused : (i : ℕ) → i < count b → Unrefused b i
+  unfolding pointRefusal
+  unrefused i h = let p = points-at ps i h in rw (p .latitude, p .longitude)
 
   pub points-accepted : bufferRefusal b ≡ 0
   unfolding bufferRefusal
   points-accepted =
-      rw (eq-eqb (length b % numbers) 0 (points-whole ps), thirds-fit b (count b) all-points, le-leb (count b) mostPoints few)
-      (none-refused b (count b) all-points)
+      rw (eq-eqb (length b % numbers) 0 (points-whole ps), thirds-fit b (count b) thirds, le-leb (count b) mostPoints few)
+      (none-refused b (count b) unrefused)
 
 -- ---- a stored point
 

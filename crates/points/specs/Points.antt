@@ -49,13 +49,10 @@ putAt b i lat lon third = if ltb i (count b) then sets b (numbers * i) (pointNum
 abbrev pub fitsAfter : ℕ → ℤ → Bool
 fitsAfter i third = eqZ third (pos 1) || (leb 1 i && eqZ third (pos 0))
 
-abbrev pub thirdFits : List ℤ → ℕ → Bool
-thirdFits b i = fitsAfter i (thirdAt b i)
-
 -- of the first n points
 unfoldable pub thirdsFit : List ℤ → ℕ → Bool
 thirdsFit b zero = true
-thirdsFit b (suc n) = thirdsFit b n && thirdFits b n
+thirdsFit b (suc n) = thirdsFit b n && fitsAfter n (thirdAt b n)
 
 -- 6 and 7 of the first n points, point by point
 unfoldable pub pointsRefusal : List ℤ → ℕ → ℕ
@@ -65,7 +62,6 @@ pointsRefusal b (suc n) = firstOf (pointsRefusal b n) (pointRefusal (latitudeAt 
 -- "buffer not a multiple of three, a third number other than 0 or 1, or a first one of 0"; more than 1,000 points; then the points
 unfoldable pub bufferRefusal : List ℤ → ℕ
 bufferRefusal b =
-    unless (eqb (length b % numbers) 0) BUFFER
-    (unless (thirdsFit b (count b)) BUFFER
+    unless (eqb (length b % numbers) 0 && thirdsFit b (count b)) BUFFER
     (unless (leb (count b) mostPoints) POINTS
-    (pointsRefusal b (count b))))
+    (pointsRefusal b (count b)))

@@ -2,7 +2,7 @@
 // knows how a point's numbers lie.
 ghost use mathlib.Core.Path.{_≡_};
 ghost use Prim.Native.Nat.{_<_};
-ghost use Rattle.points.specs.Points.{numbers, count, partAt, latitudeAt, longitudeAt, thirdAt, putAt, thirdFits, thirdsFit, pointsRefusal, bufferRefusal};
+ghost use Rattle.points.specs.Points.{numbers, count, partAt, latitudeAt, longitudeAt, thirdAt, putAt, fitsAfter, thirdsFit, pointsRefusal, bufferRefusal};
 use refusals::BUFFER;
 use refusals::POINTS;
 use refusals::first_of;
@@ -68,7 +68,7 @@ pub fn put(points: &mut [i32], i: usize, latitude: i32, longitude: i32, third: i
 }
 
 fn third_fits(points: &[i32], i: usize) -> bool
-    ensures { λ r. ⌜ r ≡ thirdFits (now (points .entry)) i ⌝ }
+    ensures { λ r. ⌜ r ≡ fitsAfter i (thirdAt (now (points .entry)) i) ⌝ }
 {
     let pen = third(points, i);
     (pen == 1) | ((1 <= i) & (pen == 0))

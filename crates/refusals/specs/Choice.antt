@@ -17,3 +17,8 @@ if false then a else b = b
 abbrev pub firstOf : ℕ → ℕ → ℕ
 firstOf zero b = b
 firstOf (suc a) b = suc a
+
+-- what is answered: v, but for the refusal n, 0 being none
+abbrev pub answered : {A : Type 0} → ℕ → (ℕ → A) → A → A
+answered zero refused v = v
+answered (suc n) refused v = refused (suc n)

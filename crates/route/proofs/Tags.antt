@@ -9,15 +9,13 @@ use denote.Enum.Declared.{tagOf}
 use Rattle.route.specs.declared.lines.Line.{Line}
 use Rattle.route.specs.declared.lines.Line.the-variants as L
 use Rattle.route.specs.declared.lines.State.{State}
-use Rattle.route.specs.declared.reader.Judged.{Judged}
 use Rattle.numbers.specs.Pieces.{TAB, indexOf}
-use Rattle.route.specs.Line.{numbersOf}
-use Rattle.route.specs.LineLaws.{LastSays, refused, read}
-use Rattle.route.specs.Route.{onLine}
+use Rattle.route.specs.LineLaws.{numbersOf, LastSays, refused, read}
+use Rattle.route.specs.Route.{Walk, onLine}
 use Rattle.route.proofs.lines.Line.{the-type}
 
 -- the line was not refused
-pub goes-on : (line : ℕ) (l : Line) (next : Judged) → OneOf (0 ∷ (1 ∷ (2 ∷ []))) (tagOf the-type l) → onLine line l next ≡ next
+pub goes-on : (line : ℕ) (l : Line) (next : Walk) → OneOf (0 ∷ (1 ∷ (2 ∷ []))) (tagOf the-type l) → onLine line l next ≡ next
 goes-on line (L.Target mm) next h = refl
 goes-on line (L.Point lat lon) next h = refl
 goes-on line L.Gap next h = refl

@@ -1,8 +1,10 @@
+pub mod Figures
 pub mod Line
 pub mod LineLaws
 pub mod Paper
 pub mod Promises
+pub mod ReadsLaws
 pub mod Route
 pub mod RouteLaws
-pub mod Unique
 pub mod WalkLaws
+pub mod Words

@@ -3,7 +3,8 @@ ghost use mathlib.Core.Path.{_≡_};
 ghost use Prim.Native.Nat.{_*_, _≤_};
 ghost use lib.ListN.{length};
 ghost use Rattle.points.specs.Points.{numbers, mostPoints};
-ghost use Rattle.route.specs.Route.{headerOf, readingOf, bufferOf};
+ghost use Rattle.route.specs.Route.{readingOf, bufferOf};
+ghost use Rattle.route.specs.WalkLaws.{headerOf};
 
 mod lines;
 mod reader;
@@ -36,6 +37,17 @@ pub enum Reading {
     Refused(u32, u32),
 }
 
+// A reading in the paper's own numbers, as it goes out to C: 0 in every value beside a refusal, has_target 1 or 0.
+#[repr(C)]
+pub struct ReadingOut {
+    pub refusal: u32,
+    pub line: u32,
+    pub points: u32,
+    pub has_target: u32,
+    pub length: u64,
+    pub target: u64,
+}
+
 pub const MOST_BYTES: usize = 60_000;
 
 fn read_header(line: &[u8]) -> Header
@@ -50,10 +62,10 @@ fn read_header(line: &[u8]) -> Header
     Header::Unknown
 }
 
-fn read_text(text: &[u8], own: &mut [i32], buffer: &mut [i32]) -> Reading
+fn read_text(text: &[u8], own: &mut [i32], lent: &mut [i32]) -> Reading
     requires { ⌜ numbers * mostPoints ≤ length (now own) ⌝ }
-    ensures answer { λ r. ⌜ r ≡ readingOf (now (text .entry)) (length (now (buffer .entry))) ⌝ }
-    ensures left { λ _. ⌜ now (buffer .exit) ≡ bufferOf (now (text .entry)) (now (buffer .entry)) ⌝ }
+    ensures answer { λ r. ⌜ r ≡ readingOf (now (text .entry)) (length (now (lent .entry))) ⌝ }
+    ensures left { λ _. ⌜ now (lent .exit) ≡ bufferOf (now (text .entry)) (now (lent .entry)) ⌝ }
 {
     if MOST_BYTES < text.len() {
         return Reading::Refused(TEXT, 0);
@@ -65,7 +77,7 @@ fn read_text(text: &[u8], own: &mut [i32], buffer: &mut [i32]) -> Reading
     let Header::Names(mark) = read_header(&text[..e]) else {
         return Reading::Refused(HEADER, 1);
     };
-    reader::read_body(&text[e + 1..], mark, own, buffer)
+    reader::read_body(&text[e + 1..], mark, own, lent)
 }
 
 // The route that a text says. Of an accepted one, the buffer has the points from its start on. Nothing else in the buffer changes, and nothing

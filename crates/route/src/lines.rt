@@ -2,7 +2,9 @@
 ghost use mathlib.Core.Path.{_≡_};
 ghost use Prim.Native.Nat.{_≤_};
 ghost use Rattle.points.specs.Points.{mostPoints};
-ghost use Rattle.route.specs.Line.{refusalOf, isFirst, isPoint, isGap, gapOf, targetOf, pointOf, lineOf, fresh, afterOf, thirdOf};
+ghost use Rattle.numbers.specs.Pieces.{TAB, split};
+ghost use Rattle.route.specs.Line.{gapOf, targetOf, pointOf, fieldsOf, thirdOf};
+ghost use Rattle.route.specs.LineLaws.{refusalOf, start, stateAfter};
 use crate::Target;
 use numbers::Kind;
 use numbers::Mark;
@@ -26,56 +28,15 @@ pub(crate) enum Line {
     Refused(u32),
 }
 
-// What the line before was.
-pub(crate) enum Before {
-    Header,
-    Target,
-    Point,
-    Gap,
-}
-
-// What the lines so far leave for the next one.
+// What the lines so far leave for the next one; `before` is the first byte of the line before, which is `r` of line 1.
 pub(crate) struct State {
-    pub before: Before,
+    pub before: u8,
     pub points: u32,
     pub target: Target,
 }
 
 // A target is in kilometres, its third decimal a metre.
 const METRE: u64 = 1_000;
-
-fn is_first(before: Before) -> bool
-    ensures { λ r. ⌜ r ≡ isFirst before ⌝ }
-{
-    match before {
-        Before::Header => true,
-        Before::Target => false,
-        Before::Point => false,
-        Before::Gap => false,
-    }
-}
-
-fn is_point(before: Before) -> bool
-    ensures { λ r. ⌜ r ≡ isPoint before ⌝ }
-{
-    match before {
-        Before::Point => true,
-        Before::Header => false,
-        Before::Target => false,
-        Before::Gap => false,
-    }
-}
-
-pub(crate) fn is_gap(before: Before) -> bool
-    ensures { λ r. ⌜ r ≡ isGap before ⌝ }
-{
-    match before {
-        Before::Gap => true,
-        Before::Header => false,
-        Before::Target => false,
-        Before::Point => false,
-    }
-}
 
 // 0 where the number was read.
 fn refusal_of(n: Number) -> u32
@@ -87,25 +48,25 @@ fn refusal_of(n: Number) -> u32
     }
 }
 
-fn gap(kind: &[u8], before: Before) -> Line
+fn gap(kind: &[u8], before: u8) -> Line
     ensures { λ r. ⌜ r ≡ gapOf before (now (kind .entry)) ⌝ }
 {
     if !is_byte(kind, b'g') {
         return Line::Refused(LINE);
     }
-    if !is_point(before) {
+    if before != b'p' {
         return Line::Refused(ORDER);
     }
     Line::Gap
 }
 
-fn target(kind: &[u8], field: &[u8], mark: Mark, before: Before) -> Line
+fn target(kind: &[u8], field: &[u8], mark: Mark, before: u8) -> Line
     ensures { λ r. ⌜ r ≡ targetOf mark before (now (kind .entry)) (now (field .entry)) ⌝ }
 {
     if !is_byte(kind, b't') {
         return Line::Refused(LINE);
     }
-    if !is_first(before) {
+    if before != b'r' {
         return Line::Refused(ORDER);
     }
     let number = read(field, Kind::Target, mark);
@@ -138,7 +99,7 @@ fn point(kind: &[u8], first: &[u8], second: &[u8], mark: Mark, points: u32) -> L
 
 // The number of fields decides which kind the line can be.
 pub(crate) fn read_line(s: &[u8], mark: Mark, st: State) -> Line
-    ensures { λ r. ⌜ r ≡ lineOf mark st (now (s .entry)) ⌝ }
+    ensures { λ r. ⌜ r ≡ fieldsOf mark (st .before) (st .points) (split TAB (now (s .entry))) ⌝ }
 {
     let before = st.before;
     let i = find(s, TAB);
@@ -164,10 +125,10 @@ pub(crate) fn read_line(s: &[u8], mark: Mark, st: State) -> Line
 
 // Before line 2.
 pub(crate) fn fresh() -> State
-    ensures { λ r. ⌜ r ≡ fresh ⌝ }
+    ensures { λ r. ⌜ r ≡ start ⌝ }
 {
     State {
-        before: Before::Header,
+        before: b'r',
         points: 0,
         target: Target::None,
     }
@@ -175,23 +136,23 @@ pub(crate) fn fresh() -> State
 
 pub(crate) fn after(st: State, line: Line) -> State
     requires { ⌜ st .points ≤ mostPoints ⌝ }
-    ensures { λ r. ⌜ r ≡ afterOf st line ⌝ }
+    ensures { λ r. ⌜ r ≡ stateAfter st line ⌝ }
 {
     let points = st.points;
     let target = st.target;
     match line {
         Line::Target(millimetres) => State {
-            before: Before::Target,
+            before: b't',
             points: points,
             target: Target::Millimetres(millimetres),
         },
         Line::Point(_, _) => State {
-            before: Before::Point,
+            before: b'p',
             points: points + 1,
             target: target,
         },
         Line::Gap => State {
-            before: Before::Gap,
+            before: b'g',
             points: points,
             target: target,
         },
@@ -200,8 +161,8 @@ pub(crate) fn after(st: State, line: Line) -> State
 }
 
 // 1 for the first point and after `g`, else 0.
-pub(crate) fn third(before: Before) -> i32
+pub(crate) fn third(before: u8) -> i32
     ensures { λ r. ⌜ r ≡ thirdOf before ⌝ }
 {
-    if is_point(before) { 0 } else { 1 }
+    if before == b'p' { 0 } else { 1 }
 }

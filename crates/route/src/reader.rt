@@ -7,15 +7,15 @@ ghost use lib.Seq.{sets};
 ghost use Rattle.points.specs.Points.{numbers, mostPoints};
 ghost use Rattle.globe.specs.Paper.{lengthPaper};
 ghost use Rattle.numbers.specs.Pieces.{LF, split};
-ghost use Rattle.route.specs.Line.{fresh, numbersOf};
-ghost use Rattle.route.specs.Route.{mostBytes, endOf, judgeFrom, pointsFrom, bodyOf, leftBy};
-ghost use Rattle.route.specs.WalkLaws.{HeldBy};
+ghost use Rattle.route.specs.Line.{fresh};
+ghost use Rattle.route.specs.LineLaws.{numbersOf};
+ghost use Rattle.route.specs.Route.{mostBytes, walkFrom, answerOf, leftBy};
+ghost use Rattle.route.specs.WalkLaws.{endOf, came, fewIn};
 use crate::Reading;
 use crate::lines::Line;
 use crate::lines::State;
 use crate::lines::after;
 use crate::lines::fresh;
-use crate::lines::is_gap;
 use crate::lines::read_line;
 use crate::lines::third;
 use globe::Length;
@@ -35,17 +35,22 @@ pub(crate) enum Judged {
     Refused(u32, u32),
 }
 
-// What stands after the last LF is a line without LF; a last `g` names its own line.
-fn ending(rest: &[u8], line: u32, st: State) -> Judged
+// What stands after the last LF is a line without LF; a last `g` names its own line; then the points must have room.
+fn ending(rest: &[u8], line: u32, st: State, room: usize) -> Judged
     requires { ⌜ 1 ≤ line ⌝ }
-    ensures { λ r. ⌜ r ≡ endOf line (now (rest .entry)) st ⌝ }
+    requires { ⌜ st .points ≤ mostPoints ⌝ }
+    ensures { λ r. ⌜ r ≡ endOf room line (now (rest .entry)) st ⌝ }
 {
     if rest.len() != 0 {
         return Judged::Refused(LINE, line);
     }
     let before = st.before;
-    if is_gap(before) {
+    if before == b'g' {
         return Judged::Refused(ORDER, line - 1);
+    }
+    let points = st.points;
+    if room < NUMBERS * (points as usize) {
+        return Judged::Refused(ROOM, 0);
     }
     Judged::Accepted(st)
 }
@@ -62,12 +67,12 @@ fn put_line(own: &mut [i32], st: State, line: Line)
     }
 }
 
-// Each line is read once: it is judged, and its numbers go into a buffer of our own.
-fn read_lines(text: &[u8], mark: Mark, own: &mut [i32]) -> Judged
+// Each line is read once: it is judged, and its numbers go into a buffer of our own. The points are to have room for so many numbers.
+fn read_lines(text: &[u8], mark: Mark, room: usize, own: &mut [i32]) -> Judged
     requires { ⌜ length (now text) ≤ mostBytes ⌝ }
     requires { ⌜ numbers * mostPoints ≤ length (now own) ⌝ }
-    ensures judged { λ r. ⌜ r ≡ judgeFrom mark 2 (split LF (now (text .entry))) fresh ⌝ }
-    ensures held { λ r. ⌜ HeldBy r (pointsFrom mark (split LF (now (text .entry))) fresh) (now (own .entry)) (now (own .exit)) ⌝ }
+    ensures walked { λ r. ⌜ came r (now (own .exit)) ≡ walkFrom mark room 2 fresh (split LF (now (text .entry))) ⌝ }
+    ensures few { λ r. ⌜ fewIn r ⌝ }
 {
     let mut rest = text;
     let mut line: u32 = 2;
@@ -75,7 +80,7 @@ fn read_lines(text: &[u8], mark: Mark, own: &mut [i32]) -> Judged
     loop {
         let e = find(rest, LF);
         if e == rest.len() {
-            return ending(rest, line, st);
+            return ending(rest, line, st, room);
         }
         let l = read_line(&rest[..e], mark, st);
         if let Line::Refused(n) = l {
@@ -115,19 +120,16 @@ fn millimetres(length: Length) -> u64
 pub(crate) fn read_body(text: &[u8], mark: Mark, own: &mut [i32], buffer: &mut [i32]) -> Reading
     requires { ⌜ length (now text) ≤ mostBytes ⌝ }
     requires { ⌜ numbers * mostPoints ≤ length (now own) ⌝ }
-    ensures answer { λ r. ⌜ r ≡ bodyOf mark (now (text .entry)) (length (now (buffer .entry))) ⌝ }
-    ensures left { λ _. ⌜ now (buffer .exit) ≡ leftBy (bodyOf mark (now (text .entry)) (length (now (buffer .entry)))) (pointsFrom mark (split LF (now (text .entry))) fresh) (now (buffer .entry)) ⌝ }
+    ensures answer { λ r. ⌜ r ≡ answerOf (walkFrom mark (length (now (buffer .entry))) 2 fresh (split LF (now (text .entry)))) ⌝ }
+    ensures left { λ _. ⌜ now (buffer .exit) ≡ leftBy (now (buffer .entry)) (walkFrom mark (length (now (buffer .entry))) 2 fresh (split LF (now (text .entry)))) ⌝ }
 {
-    let judged = read_lines(text, mark, own);
+    let judged = read_lines(text, mark, buffer.len(), own);
     match judged {
         Judged::Refused(refusal, line) => Reading::Refused(refusal, line),
         Judged::Accepted(st) => {
             let points = st.points;
             let target = st.target;
             let numbers = NUMBERS * (points as usize);
-            if buffer.len() < numbers {
-                return Reading::Refused(ROOM, 0);
-            }
             copy(own, numbers, buffer);
             let length = millimetres(measure(&buffer[..numbers]));
             Reading::Route {

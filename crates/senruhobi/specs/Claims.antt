@@ -34,8 +34,9 @@ pub record Figures : Type 0 where
   -- "length from 0,0 to 1 tick north: 0", "to 2 ticks north: 22"
   pub one-tick-north : lengthPaper (legOf (pos 0) (pos 0) (pos 1) (pos 0)) ≡ record { refusal = 0; millimetres = 0 }
   pub two-ticks-north : lengthPaper (legOf (pos 0) (pos 0) (pos 2) (pos 0)) ≡ record { refusal = 0; millimetres = 22 }
-  -- "0, 179.9° E to 0, 179.9° W: 22,238,985"
+  -- "0, 179.9° E to 0, 179.9° W: 22,238,985. Pole to pole: 20,015,086,860."
   pub across-the-date-line : lengthPaper (legOf (pos 0) (pos 1_799_000_000) (pos 0) (negℤ (pos 1_799_000_000))) ≡ record { refusal = 0; millimetres = 22_238_985 }
+  pub pole-to-pole : lengthPaper (legOf (pos 900_000_000) (pos 0) (negℤ (pos 900_000_000)) (pos 0)) ≡ record { refusal = 0; millimetres = 20_015_086_860 }
 
 pub figures : Figures
 figures = record {
@@ -55,4 +56,5 @@ figures = record {
   one-tick-north = G.length-1-north;
   two-ticks-north = G.length-2-north;
   across-the-date-line = G.length-across-180;
+  pole-to-pole = G.length-pole-to-pole;
 }

@@ -1,3 +1,1 @@
-pub mod Doors
 pub mod Claims
-pub mod Unique

@@ -8,98 +8,57 @@ ghost use Rattle.globe.specs.Sheet.{cylindricalOf, sinusoidalOf, cylindricalBac
 ghost use Rattle.globe.specs.Leg.{legOf};
 ghost use Rattle.route.specs.Paper.{readingPaper};
 ghost use Rattle.route.specs.Route.{readingOf, bufferOf};
-ghost use Rattle.pen.specs.Pen.{stepOf};
-ghost use Rattle.senruhobi.specs.Doors.{sineOut, placeOut, pointOut, lengthOut, readingOut, stepOut, penIn, windowIn};
+ghost use Rattle.pen.specs.Paper.{stepped};
 
 mod out;
 
+use globe::LengthOut;
+use globe::PlaceOut;
+use globe::PointOut;
+use globe::SineOut;
 use pen::Pen;
+use pen::StepOut;
 use pen::Window;
-
-#[repr(C)]
-pub struct SineOut {
-    pub refusal: u32,
-    pub value: i64,
-}
-
-#[repr(C)]
-pub struct PlaceOut {
-    pub refusal: u32,
-    pub x: i64,
-    pub y: i64,
-}
-
-#[repr(C)]
-pub struct PointOut {
-    pub refusal: u32,
-    pub latitude: i32,
-    pub longitude: i32,
-}
-
-#[repr(C)]
-pub struct LengthOut {
-    pub refusal: u32,
-    pub millimetres: u64,
-}
-
-#[repr(C)]
-pub struct ReadingOut {
-    pub refusal: u32,
-    pub line: u32,
-    pub points: u32,
-    pub has_target: u32,
-    pub length: u64,
-    pub target: u64,
-}
-
-// stroke: 0 outside, 1 move, 2 line. pen: 0 up, 1 down; beside a refusal the number that came in.
-#[repr(C)]
-pub struct StepOut {
-    pub refusal: u32,
-    pub stroke: u32,
-    pub x: f64,
-    pub y: f64,
-    pub pen: u32,
-}
+use route::ReadingOut;
 
 #[no_mangle]
 pub extern "C" fn senruhobi_long_sine(angle: i32) -> SineOut
-    ensures { λ r. ⌜ r ≡ sineOut (sinePaper (longSineOf angle)) ⌝ }
+    ensures { λ r. ⌜ r ≡ sinePaper (longSineOf angle) ⌝ }
 {
     out::sine(globe::long_sine(angle))
 }
 
 #[no_mangle]
 pub extern "C" fn senruhobi_short_sine(angle: i32) -> SineOut
-    ensures { λ r. ⌜ r ≡ sineOut (sinePaper (shortSineOf angle)) ⌝ }
+    ensures { λ r. ⌜ r ≡ sinePaper (shortSineOf angle) ⌝ }
 {
     out::sine(globe::short_sine(angle))
 }
 
 #[no_mangle]
 pub extern "C" fn senruhobi_cylindrical(latitude: i32, longitude: i32, meridian: i32) -> PlaceOut
-    ensures { λ r. ⌜ r ≡ placeOut (placePaper (cylindricalOf latitude longitude meridian)) ⌝ }
+    ensures { λ r. ⌜ r ≡ placePaper (cylindricalOf latitude longitude meridian) ⌝ }
 {
     out::place(globe::cylindrical(latitude, longitude, meridian))
 }
 
 #[no_mangle]
 pub extern "C" fn senruhobi_sinusoidal(latitude: i32, longitude: i32, meridian: i32) -> PlaceOut
-    ensures { λ r. ⌜ r ≡ placeOut (placePaper (sinusoidalOf latitude longitude meridian)) ⌝ }
+    ensures { λ r. ⌜ r ≡ placePaper (sinusoidalOf latitude longitude meridian) ⌝ }
 {
     out::place(globe::sinusoidal(latitude, longitude, meridian))
 }
 
 #[no_mangle]
 pub extern "C" fn senruhobi_cylindrical_back(x: i64, y: i64, meridian: i32) -> PointOut
-    ensures { λ r. ⌜ r ≡ pointOut (pointPaper (cylindricalBackOf x y meridian)) ⌝ }
+    ensures { λ r. ⌜ r ≡ pointPaper (cylindricalBackOf x y meridian) ⌝ }
 {
     out::point(globe::cylindrical_back(x, y, meridian))
 }
 
 #[no_mangle]
 pub extern "C" fn senruhobi_sinusoidal_back(x: i64, y: i64, meridian: i32) -> PointOut
-    ensures { λ r. ⌜ r ≡ pointOut (pointPaper (sinusoidalBackOf x y meridian)) ⌝ }
+    ensures { λ r. ⌜ r ≡ pointPaper (sinusoidalBackOf x y meridian) ⌝ }
 {
     out::point(globe::sinusoidal_back(x, y, meridian))
 }
@@ -111,7 +70,7 @@ pub extern "C" fn senruhobi_leg(
     latitude2: i32,
     longitude2: i32,
 ) -> LengthOut
-    ensures { λ r. ⌜ r ≡ lengthOut (lengthPaper (legOf latitude1 longitude1 latitude2 longitude2)) ⌝ }
+    ensures { λ r. ⌜ r ≡ lengthPaper (legOf latitude1 longitude1 latitude2 longitude2) ⌝ }
 {
     out::length(globe::leg(latitude1, longitude1, latitude2, longitude2))
 }
@@ -119,7 +78,7 @@ pub extern "C" fn senruhobi_leg(
 // A slice is a pointer and a count for C.
 #[no_mangle]
 pub extern "C" fn senruhobi_read_route(text: &[u8], buffer: &mut [i32]) -> ReadingOut
-    ensures { λ r. ⌜ r ≡ readingOut (readingPaper (readingOf (now (text .entry)) (length (now (buffer .entry))))) ⌝ }
+    ensures { λ r. ⌜ r ≡ readingPaper (readingOf (now (text .entry)) (length (now (buffer .entry)))) ⌝ }
     ensures { λ r. ⌜ now (buffer .exit) ≡ bufferOf (now (text .entry)) (now (buffer .entry)) ⌝ }
 {
     out::reading(route::read(text, buffer))
@@ -139,7 +98,7 @@ pub extern "C" fn senruhobi_pen_step(
     longitude: i32,
     third: i32,
 ) -> StepOut
-    ensures { λ r. ⌜ r ≡ stepOut pen (stepOf (penIn pen) (windowIn left right bottom top) divisor meridian latitude longitude third) ⌝ }
+    ensures { λ r. ⌜ r ≡ stepped pen (record { left = left; right = right; bottom = bottom; top = top }) divisor meridian latitude longitude third ⌝ }
 {
     let before = Pen { down: pen != 0 };
     let window = Window {

@@ -3,27 +3,26 @@ ghost use mathlib.Core.Path.{_≡_};
 ghost use Rattle.globe.specs.Paper.{sinePaper, placePaper, pointPaper, lengthPaper};
 ghost use Rattle.route.specs.declared.Reading.the-variants.{Route};
 ghost use Rattle.route.specs.Paper.{readingPaper};
-ghost use Rattle.pen.specs.Paper.{penPaper};
-ghost use Rattle.senruhobi.specs.Doors.{sineOut, placeOut, pointOut, lengthOut, readingOut, drawnOut, stepOut};
-use crate::LengthOut;
-use crate::PlaceOut;
-use crate::PointOut;
-use crate::ReadingOut;
-use crate::SineOut;
-use crate::StepOut;
+ghost use Rattle.pen.specs.Paper.{penPaper, drawnPaper, stepPaper};
 use globe::Length;
+use globe::LengthOut;
 use globe::Place;
+use globe::PlaceOut;
 use globe::Point;
+use globe::PointOut;
 use globe::Sine;
+use globe::SineOut;
 use pen::Answer;
 use pen::Pen;
 use pen::Step;
+use pen::StepOut;
 use pen::Stroke;
 use route::Reading;
+use route::ReadingOut;
 use route::Target;
 
 pub(crate) fn sine(s: Sine) -> SineOut
-    ensures { λ r. ⌜ r ≡ sineOut (sinePaper s) ⌝ }
+    ensures { λ r. ⌜ r ≡ sinePaper s ⌝ }
 {
     match s {
         Sine::Value(value) => SineOut { refusal: 0, value },
@@ -32,7 +31,7 @@ pub(crate) fn sine(s: Sine) -> SineOut
 }
 
 pub(crate) fn place(p: Place) -> PlaceOut
-    ensures { λ r. ⌜ r ≡ placeOut (placePaper p) ⌝ }
+    ensures { λ r. ⌜ r ≡ placePaper p ⌝ }
 {
     match p {
         Place::At(x, y) => PlaceOut { refusal: 0, x, y },
@@ -45,7 +44,7 @@ pub(crate) fn place(p: Place) -> PlaceOut
 }
 
 pub(crate) fn point(p: Point) -> PointOut
-    ensures { λ r. ⌜ r ≡ pointOut (pointPaper p) ⌝ }
+    ensures { λ r. ⌜ r ≡ pointPaper p ⌝ }
 {
     match p {
         Point::At(latitude, longitude) => PointOut {
@@ -62,7 +61,7 @@ pub(crate) fn point(p: Point) -> PointOut
 }
 
 pub(crate) fn length(l: Length) -> LengthOut
-    ensures { λ r. ⌜ r ≡ lengthOut (lengthPaper l) ⌝ }
+    ensures { λ r. ⌜ r ≡ lengthPaper l ⌝ }
 {
     match l {
         Length::Millimetres(millimetres) => LengthOut {
@@ -77,7 +76,7 @@ pub(crate) fn length(l: Length) -> LengthOut
 }
 
 fn accepted(points: u32, length: u64, target: Target) -> ReadingOut
-    ensures { λ r. ⌜ r ≡ readingOut (readingPaper (Route points length target)) ⌝ }
+    ensures { λ r. ⌜ r ≡ readingPaper (Route points length target) ⌝ }
 {
     match target {
         Target::None => ReadingOut {
@@ -100,7 +99,7 @@ fn accepted(points: u32, length: u64, target: Target) -> ReadingOut
 }
 
 pub(crate) fn reading(r: Reading) -> ReadingOut
-    ensures { λ r′. ⌜ r′ ≡ readingOut (readingPaper r) ⌝ }
+    ensures { λ r′. ⌜ r′ ≡ readingPaper r ⌝ }
 {
     match r {
         Reading::Route {
@@ -126,7 +125,7 @@ fn pen(p: Pen) -> u32
 }
 
 fn drawn(stroke: Stroke, next: u32) -> StepOut
-    ensures { λ r. ⌜ r ≡ drawnOut stroke next ⌝ }
+    ensures { λ r. ⌜ r ≡ drawnPaper stroke next ⌝ }
 {
     match stroke {
         Stroke::Outside => StepOut {
@@ -155,7 +154,7 @@ fn drawn(stroke: Stroke, next: u32) -> StepOut
 
 // `got` is the number of the pen that came in.
 pub(crate) fn step(got: u32, s: Step) -> StepOut
-    ensures { λ r. ⌜ r ≡ stepOut got s ⌝ }
+    ensures { λ r. ⌜ r ≡ stepPaper got s ⌝ }
 {
     let next = pen(s.next);
     let answer = s.answer;

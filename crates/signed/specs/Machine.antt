@@ -1,6 +1,6 @@
 -- Signed numbers of the machine: which fit a width, and that what was stored is read back.
 -- Assumes nothing.
-use mathlib.Core.Path.{_≡_, refl, sym, ap, _∙_}
+use mathlib.Core.Path.{_≡_, sym, ap, _∙_}
 use Prim.Native.Nat.{ℕ, _+_, _*_, _^_, _≤_, _<_}
 use native.Mathlib.Nat.{div-le-self, div-mul-le-self}
 use native.Mathlib.Omega.{arith}
@@ -8,12 +8,13 @@ use lib.Dec.{T, eqb}
 use lib.IntN.{ℤ, pos, negsuc, negℤ, natAbs, _-ℤ_, _*ℤ_}
 use lib.Signed.{mag, nonNeg, quotZ}
 use borrow.Author.Needs.{needs}
-use borrow.Author.Tests.{ne-eqb}
+use borrow.Author.Tests.{eqb-true, eq-eqb, ne-eqb}
 use mir.Syntax.{Width, w32, w64}
 use mir.Val.{SFits, Fits, bits, hbits, toZ, ofZ}
 use mir.Facts.{toZ-ofZ}
+use Rattle.refusals.specs.Tests.{by-test, clash}
 use Rattle.signed.specs.Sides.{above, below, one-side, size-sides, sub-sides, neg-above, neg-below, mul-above, mul-below, quot-above, quot-below}
-use Rattle.signed.specs.Tests.{eqZ}
+use Rattle.signed.specs.Tests.{eqZ, eq-eqZ, ne-eqZ}
 
 -- ---- what fits
 
@@ -91,5 +92,5 @@ same-bits w f g e = sym (toZ-ofZ f) ∙ ap (toZ w) e ∙ toZ-ofZ g
 
 -- the machine compares by bits
 pub bits-test : (z : ℤ) (n : ℕ) → mag z < 2 ^ hbits w32 → n < 2 ^ hbits w32 → eqb (ofZ w32 z) n ≡ eqZ z (pos n)
-bits-test (pos m) n f h = refl
+bits-test (pos m) n f h = by-test (eqb m n) (λ e. e ∙ sym (eq-eqZ (pos m) (pos n) (ap pos (eqb-true m n e)))) (λ e. e ∙ sym (ne-eqZ (pos m) (pos n) (λ p. clash (eq-eqb m n (ap above p)) e)))
 bits-test (negsuc m) n f h = ne-eqb _ n (λ e. omega arith)

@@ -1,14 +1,15 @@
 -- The tests on signed numbers, each from and to a fact about the sides that `omega` reads.
 -- Assumes nothing.
 use mathlib.Core.Path.{_≡_, refl, sym, ap, subst}
-use mathlib.Core.Bool.{Bool, true, false}
+use mathlib.Core.Bool.{Bool, true, false, _&&_}
 use Prim.Native.Nat.{_+_, _≤_, _<_}
 use native.Mathlib.Omega.{arith}
-use lib.Dec.{T, eqb}
+use lib.Dec.{T}
 use lib.IntN.{ℤ, pos, negsuc}
 use lib.Signed.{ltZ, leZ}
-use borrow.Author.Tests.{ltb-true, ltb-false, leb-true, leb-false, eqb-true, lt-ltb, le-leb, eq-eqb}
-use Rattle.signed.specs.Sides.{above, below}
+use borrow.Author.Tests.{ltb-true, ltb-false, leb-true, leb-false, lt-ltb, le-leb}
+use Rattle.signed.specs.Sides.{above, below, same}
+use Rattle.refusals.specs.Tests.{by-test, and-true, true-and}
 
 pub ltZ-true : (a b : ℤ) → ltZ a b ≡ true → above a + below b < above b + below a
 ltZ-true (pos a) (pos b) e = omega (arith, ltb-true a b e)
@@ -49,27 +50,15 @@ le-leZ (negsuc a) (negsuc b) h = le-leb b a (omega arith)
 -- ---- equality
 
 abbrev pub eqZ : ℤ → ℤ → Bool
-eqZ (pos a) (pos b) = eqb a b
-eqZ (pos a) (negsuc b) = false
-eqZ (negsuc a) (pos b) = false
-eqZ (negsuc a) (negsuc b) = eqb a b
+eqZ a b = leZ a b && leZ b a
 
 pub eqZ-true : (a b : ℤ) → eqZ a b ≡ true → a ≡ b
-eqZ-true (pos a) (pos b) e = ap pos (eqb-true a b e)
-eqZ-true (pos a) (negsuc b) e = absurd (subst T (sym e) tt)
-eqZ-true (negsuc a) (pos b) e = absurd (subst T (sym e) tt)
-eqZ-true (negsuc a) (negsuc b) e = ap negsuc (eqb-true a b e)
-
-eqZ-self : (a : ℤ) → eqZ a a ≡ true
-eqZ-self (pos a) = eq-eqb a a refl
-eqZ-self (negsuc a) = eq-eqb a a refl
+eqZ-true a b e =
+    let p = and-true (leZ a b) (leZ b a) e in
+    same a b (omega (arith, leZ-true a b (p .0), leZ-true b a (p .1)))
 
 pub eq-eqZ : (a b : ℤ) → a ≡ b → eqZ a b ≡ true
-eq-eqZ a b e = rw (← e) (eqZ-self a)
+eq-eqZ a b e = true-and (le-leZ a b (omega (arith, ap above e, ap below e))) (le-leZ b a (omega (arith, ap above e, ap below e)))
 
 pub ne-eqZ : (a b : ℤ) → (a ≡ b → ⊥) → eqZ a b ≡ false
-ne-eqZ a b f = go (eqZ a b) refl
-  where
-    go : (t : Bool) → eqZ a b ≡ t → t ≡ false
-    go true e = absurd (f (eqZ-true a b e))
-    go false e = refl
+ne-eqZ a b f = by-test (eqZ a b) (λ e. absurd (f (eqZ-true a b e))) (λ e. e)

@@ -1,40 +1,39 @@
--- Laws of the ways back: what each answer says it says of one number only, and each can be had from the last row or the last angle.
+-- Laws of the way back: the last row and the last angle whose sine is at most a number, and the greatest angle that they give.
 -- Assumes nothing.
-use mathlib.Core.Path.{_≡_, refl, sym, ap, _∙_}
-use mathlib.Core.Option.{Option, none, some}
+use mathlib.Core.Path.{_≡_}
 use Prim.Native.Nat.{ℕ, _+_, _-_, _*_, _/_, _≤_, _<_}
 use native.Mathlib.Nat.{le-refl, mul-le-mul-right, mul-pos, div-mul-le-self, lt-div-mul-add, le-div-iff-mul-le, div-lt-iff-lt-mul}
 use native.Mathlib.Omega.{arith}
-use lib.Dec.{leb, eqb}
-use borrow.Author.Tests.{le-leb, lt-leb, eqb-true, eq-eqb}
+use lib.Dec.{leb}
+use borrow.Author.Tests.{le-leb, lt-leb}
 use Rattle.sines.specs.Table.{unit, entry}
-use Rattle.sines.specs.Rules.{rows, growth, rising}
-use Rattle.sines.specs.Sine.{step, quarter, sineBy, longSine, shortSine, between}
-use Rattle.sines.specs.SineLaws.{a-step, in-row, to-next, top, sineBy-le, longSine-lt, longSine-one, longSine-zero}
-use Rattle.refusals.specs.Tests.{clash}
-use Rattle.sines.specs.Greatest.{found, IsGreatest, IsFound, greatest-is, greatest-meets, found-meets}
-use Rattle.sines.specs.Back.{LastRow, LastAngle, greatestBy, greatestAngle, angleOf, IsAngleOf}
+use Rattle.sines.specs.Rules.{rows, growth}
+use Rattle.sines.specs.Sine.{quarter, sineBy, shortSine}
+use Rattle.sines.specs.SineLaws.{between, in-row, to-next, top, sineBy-le, longSine-zero}
+use Rattle.sines.specs.Greatest.{IsGreatest}
+use Rattle.sines.specs.GreatestLaws.{greatest-is, greatest-meets}
+use Rattle.sines.specs.Back.{greatestBy, greatestAngle}
 
 -- ---- the last row
 
-row-later : {y k m : ℕ} → LastRow y k → LastRow y m → k < m → ⊥
-row-later {y} {k} {m} a b l = omega (arith, a .high (omega (arith, b .inside)), rising (k + 1) m (omega arith) (b .inside), b .low)
-
-pub row-one : {y k m : ℕ} → LastRow y k → LastRow y m → k ≡ m
-row-one a b = omega (arith, row-later a b, row-later b a)
+-- k is the last row whose entry is at most y
+pub record LastRow (y k : ℕ) : Type 0 where
+  pub inside : k ≤ rows
+  pub low : entry k ≤ y
+  pub high : k < rows → y < entry (k + 1)
 
 -- ---- the last angle, in a unit of which s make a step
+
+-- u is the last angle whose sine is at most y
+pub record LastAngle (s y u : ℕ) : Type 0 where
+  pub inside : u ≤ rows * s
+  pub low : sineBy s u ≤ y
+  pub high : u < rows * s → y < sineBy s (u + 1)
 
 module _ {s : ℕ} (positive : 0 < s) where
   -- no later angle has such a sine
   pub later : {y u : ℕ} → LastAngle s y u → {v : ℕ} → u < v → v ≤ rows * s → y < sineBy s v
   later {y} {u} a {v} l h = omega (arith, a .high (omega arith), sineBy-le positive {a = u + 1} {b = v} (omega arith) h)
-
-  angle-later : {y u v : ℕ} → LastAngle s y u → LastAngle s y v → u < v → ⊥
-  angle-later a b l = omega (arith, later a l (b .inside), b .low)
-
-  pub last-angle-one : {y u v : ℕ} → LastAngle s y u → LastAngle s y v → u ≡ v
-  last-angle-one a b = omega (arith, angle-later a b, angle-later b a)
 
   pub last-angle-top : {y : ℕ} → unit ≤ y → LastAngle s y (rows * s)
   last-angle-top h = record { inside = le-refl _; low = omega (arith, top positive); high = λ l. absurd (not-lt l) }
@@ -86,44 +85,6 @@ module _ {s : ℕ} (positive : 0 < s) where
         later = λ v l h. lt-leb (sineBy s v / d) r (omega (arith, le-div-iff-mul-le {k = d} {x = r + 1} {y = sineBy s v} n .1 (omega (arith, later a l h))));
       })
 
--- ---- the angle of a long sine
-
 pub greatestAngle-meets : (r : ℕ) → IsGreatest (λ u. leb (shortSine u) r) quarter (greatestAngle r)
 unfolding greatestBy
 greatestAngle-meets r = greatest-meets (λ u. leb (shortSine u) r) (le-leb (shortSine 0) r (omega (arith, longSine-zero)))
-
-pub angleOf-meets : (y : ℕ) → IsAngleOf y (angleOf y)
-unfolding angleOf
-angleOf-meets y = go (found (λ a. eqb (longSine a) y) quarter) (found-meets (λ a. eqb (longSine a) y) quarter)
-  where
-    go : (o : Option ℕ) → IsFound (λ a. eqb (longSine a) y) quarter o → IsAngleOf y o
-    go none f = λ a h e. clash (eq-eqb (longSine a) y e) (f a h)
-    go (some a) g = (g .inside, eqb-true (longSine a) y (g .holds))
-
--- two answers that the words allow are equal
-pub angleOf-one : (y : ℕ) (p q : Option ℕ) → IsAngleOf y p → IsAngleOf y q → p ≡ q
-angleOf-one y none none f g = refl
-angleOf-one y none (some b) f g = absurd (f b (g .0) (g .1))
-angleOf-one y (some a) none f g = absurd (g a (f .0) (f .1))
-angleOf-one y (some a) (some b) f g = ap some (longSine-one (f .0) (g .0) (f .1 ∙ sym (g .1)))
-
--- from the last angle: it is the one, or there is none
-module _ {y u : ℕ} (a : LastAngle step y u) where
-  pub angleOf-some : longSine u ≡ y → angleOf y ≡ some u
-  angleOf-some e = angleOf-one y (angleOf y) (some u) (angleOf-meets y) (a .inside, e)
-
-  pub angleOf-none : (longSine u ≡ y → ⊥) → angleOf y ≡ none
-  angleOf-none n = angleOf-one y (angleOf y) none (angleOf-meets y) nobody
-    where
-      nobody : (b : ℕ) → b ≤ quarter → longSine b ≡ y → ⊥
-      nobody b h e = n (ap longSine (omega (arith, after, before)) ∙ e)
-        where
-          after : u < b → ⊥
-          after l = omega (arith, later a-step a l h)
-
-          before : b < u → ⊥
-          before l = omega (arith, longSine-lt l (a .inside), a .low)
-
--- there and back
-pub angleOf-longSine : {a : ℕ} → a ≤ quarter → angleOf (longSine a) ≡ some a
-angleOf-longSine {a} h = angleOf-one (longSine a) (angleOf (longSine a)) (some a) (angleOf-meets (longSine a)) (h, refl)

@@ -1,15 +1,14 @@
--- Figures of the document: entries of the table, the sines that they give, and ways back from a sine. Entry 0 is `Rules.first`,
+-- Figures of the document: entries of the table, the sines that they give, and ways back from a short sine. Entry 0 is `Rules.first`,
 -- entry 4500 `Rules.last`, and the long sine of 1 tick `SineLaws.longSine-tick`.
 -- Assumes nothing.
 use mathlib.Core.Path.{_≡_, refl, sym, _∙_}
-use mathlib.Core.Option.{none}
 use Prim.Native.Nat.{ℕ, _+_, _*_, _≤_, _<_}
 use native.Mathlib.Omega.{arith}
 use Rattle.sines.specs.Table.{sines, sinesFrom, rounded, sineOfStep, twiceCosine, entry}
-use Rattle.sines.specs.Sine.{quarter, between, sineBy, longSine, shortSine}
-use Rattle.sines.specs.SineLaws.{a-step, between-start, longSine-tick}
-use Rattle.sines.specs.Back.{greatestAngle, angleOf}
-use Rattle.sines.specs.BackLaws.{last-angle-top, greatest-angle, angleOf-none}
+use Rattle.sines.specs.Sine.{quarter, sineBy, longSine, shortSine}
+use Rattle.sines.specs.SineLaws.{between, a-step, between-start, longSine-tick}
+use Rattle.sines.specs.Back.{greatestAngle}
+use Rattle.sines.specs.BackLaws.{last-angle-top, greatest-angle}
 
 -- ---- the table
 
@@ -27,21 +26,21 @@ entry-1500 = refl
 
 -- of 30 degrees
 pub long-30 : longSine 300_000_000 ≡ 5_000_000_000_000
-unfolding sineBy
+unfolding sineBy between
 long-30 = between-start a-step 1_500 ∙ entry-1500
 
 -- of 2 ticks
 long-2 : longSine 2 ≡ 34_906
-unfolding sineBy between entry sines sinesFrom rounded sineOfStep twiceCosine
+unfolding sineBy entry sines sinesFrom rounded sineOfStep twiceCosine
 long-2 = refl
 
 -- of a tenth of a degree, and of one tick more
 pub long-tenth : longSine 1_000_000 ≡ 17_453_283_659
-unfolding sineBy between entry sines sinesFrom rounded sineOfStep twiceCosine
+unfolding sineBy entry sines sinesFrom rounded sineOfStep twiceCosine
 long-tenth = refl
 
 long-past-tenth : longSine 1_000_001 ≡ 17_453_301_112
-unfolding sineBy between entry sines sinesFrom rounded sineOfStep twiceCosine
+unfolding sineBy entry sines sinesFrom rounded sineOfStep twiceCosine
 long-past-tenth = refl
 
 -- ---- back to the greatest angle of a short sine
@@ -58,12 +57,3 @@ greatest-tenth = greatest-by 1_745_328 (omega arith) (omega (arith, long-tenth))
 
 pub greatest-90 : greatestAngle 1_000_000_000 ≡ quarter
 greatest-90 = sym (greatest-angle a-step {y = 10_000_000_009_999} 1_000_000_000 (omega arith) (omega arith) (last-angle-top a-step (omega arith)))
-
--- ---- back to the angle of a long sine
-
--- no angle lies between 1 tick and 2
-pub angle-17454 : angleOf 17_454 ≡ none
-angle-17454 = angleOf-none {u = 1} (record { inside = omega arith; low = omega (arith, longSine-tick); high = λ _. omega (arith, long-2) }) differs
-  where
-    differs : longSine 1 ≡ 17_454 → ⊥
-    differs e = omega (arith, longSine-tick)

@@ -3,6 +3,7 @@ pub mod Rules
 pub mod Sine
 pub mod SineLaws
 pub mod Greatest
+pub mod GreatestLaws
 pub mod Back
 pub mod BackLaws
 pub mod Figures

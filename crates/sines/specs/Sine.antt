@@ -10,13 +10,10 @@ step = 200_000
 abbrev pub quarter : ℕ
 quarter = 900_000_000
 
--- "entry k plus the floor of f × (entry k+1 - entry k) / 200,000", for any number s of units from one entry to the next
-unfoldable pub between : ℕ → ℕ → ℕ → ℕ
-between s k f = entry k + f * (entry (k + 1) - entry k) / s
-
--- "with k = a / 200,000 and f the remainder". At 90 degrees f is 0 and the sine is the last entry.
+-- "with k = a / 200,000 and f the remainder, entry k plus the floor of f × (entry k+1 - entry k) / 200,000", for any number s of units from
+-- one entry to the next. At 90 degrees f is 0 and the sine is the last entry.
 unfoldable pub sineBy : ℕ → ℕ → ℕ
-sineBy s a = between s (a / s) (a % s)
+sineBy s a = let k = a / s in let f = a % s in entry k + f * (entry (k + 1) - entry k) / s
 
 abbrev pub longSine : ℕ → ℕ
 longSine a = sineBy step a

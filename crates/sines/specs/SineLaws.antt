@@ -4,11 +4,19 @@
 use mathlib.Core.Path.{_≡_, refl, sym, ap, _∙_}
 use mathlib.Core.Logic.{⊎-elim}
 use Prim.Native.Nat.{ℕ, _+_, _-_, _*_, _/_, _%_, _≤_, _<_}
-use native.Mathlib.Nat.{le-refl, le-trans, eq-or-lt-of-le, mul-le-mul-right, mul-lt-mul-of-pos-right, mod-lt, div-add-mod', mul-add-div-right, div-eq-of-lt, mul-add-mod-self-right, mod-eq-of-lt, mul-div-cancel-left, le-div-iff-mul-le, div-lt-iff-lt-mul, div-le-of-le-mul, div-mul-le-self, zero-div}
+use native.Mathlib.Nat.{le-refl, le-trans, eq-or-lt-of-le, mul-le-mul-right, mul-lt-mul-of-pos-right, mod-lt, div-add-mod', mul-add-div-right, div-eq-of-lt, mul-add-mod-self-right, mod-eq-of-lt, mul-div-cancel-left, le-div-iff-mul-le, div-lt-iff-lt-mul, div-le-of-le-mul, div-mul-le-self, lt-div-mul-add, zero-div}
 use native.Mathlib.Omega.{arith}
 use Rattle.sines.specs.Table.{unit, sines, sinesFrom, rounded, sineOfStep, twiceCosine, entry}
 use Rattle.sines.specs.Rules.{rows, leastGrowth, growth, first, last, rising}
-use Rattle.sines.specs.Sine.{step, quarter, between, sineBy, longSine, shortUnit, shortSine}
+use Rattle.sines.specs.Sine.{step, quarter, sineBy, longSine, shortUnit, shortSine}
+
+-- f units past row k, s units from one row to the next
+unfoldable pub between : ℕ → ℕ → ℕ → ℕ
+between s k f = entry k + f * (entry (k + 1) - entry k) / s
+
+by-row : (s a : ℕ) → sineBy s a ≡ between s (a / s) (a % s)
+unfolding sineBy between
+by-row s a = refl
 
 module _ {s : ℕ} (positive : 0 < s) where
   -- ---- between two entries
@@ -52,11 +60,10 @@ module _ {s : ℕ} (positive : 0 < s) where
   -- ---- an angle by its row and what is left
 
   pub in-row : (k : ℕ) {f : ℕ} → f < s → sineBy s (k * s + f) ≡ between s k f
-  unfolding sineBy
   in-row k {f} l =
       let q : (k * s + f) / s ≡ k = mul-add-div-right positive k f ∙ ap (λ (x : ℕ). k + x) (div-eq-of-lt l) ∙ omega arith in
       let r : (k * s + f) % s ≡ f = mul-add-mod-self-right k s f ∙ mod-eq-of-lt l in
-      rw (q, r)
+      rw (by-row s (k * s + f), q, r)
 
   -- also where what is left reaches the next row
   pub to-next : {k : ℕ} → k < rows → {f : ℕ} → f ≤ s → sineBy s (k * s + f) ≡ between s k f
@@ -75,7 +82,7 @@ module _ {s : ℕ} (positive : 0 < s) where
   -- ---- the sines rise
 
   from-row : (a : ℕ) → entry (a / s) ≤ sineBy s a
-  unfolding sineBy between
+  unfolding sineBy
   from-row a = omega arith
 
   module _ {a b : ℕ} (h : a ≤ b) (l : b ≤ rows * s) where
@@ -86,20 +93,17 @@ module _ {s : ℕ} (positive : 0 < s) where
     row-top = div-le-of-le-mul s (omega arith)
 
     later-row : a / s < b / s → sineBy s a < sineBy s b
-    unfolding sineBy
     later-row r =
-        omega (arith, between-below {k = a / s} (omega (arith, row-top)) (mod-lt a positive), rising (a / s + 1) (b / s) (omega arith) row-top, from-row b)
+        omega (arith, by-row s a, between-below {k = a / s} (omega (arith, row-top)) (mod-lt a positive), rising (a / s + 1) (b / s) (omega arith) row-top, from-row b)
 
     left : a / s ≡ b / s → a + b % s ≡ b + a % s
     left e = omega (arith, div-add-mod' a s, div-add-mod' b s, ap (λ (q : ℕ). q * s) e)
 
     pub sineBy-le : sineBy s a ≤ sineBy s b
-    unfolding sineBy
-    sineBy-le = ⊎-elim (λ e. rw (← e) (between-le (a / s) (omega (arith, left e)))) (λ r. omega (arith, later-row r)) (eq-or-lt-of-le row-le)
+    sineBy-le = ⊎-elim (λ e. rw (by-row s a, by-row s b, ← e) (between-le (a / s) (omega (arith, left e)))) (λ r. omega (arith, later-row r)) (eq-or-lt-of-le row-le)
 
     strictly : s ≤ leastGrowth → a < b → sineBy s a < sineBy s b
-    unfolding sineBy
-    strictly small m = ⊎-elim (λ e. rw (← e) (between-lt inside small (omega (arith, left e)))) later-row (eq-or-lt-of-le row-le)
+    strictly small m = ⊎-elim (λ e. rw (by-row s a, by-row s b, ← e) (between-lt inside small (omega (arith, left e)))) later-row (eq-or-lt-of-le row-le)
       where
         inside : a / s < rows
         inside = div-lt-iff-lt-mul {k = s} {x = a} {y = rows} positive .1 (omega arith)
@@ -135,7 +139,7 @@ pub longSine-quarter : longSine quarter ≡ unit
 longSine-quarter = top a-step
 
 pub longSine-tick : longSine 1 ≡ 17_453
-unfolding sineBy between entry sines sinesFrom rounded sineOfStep twiceCosine
+unfolding sineBy entry sines sinesFrom rounded sineOfStep twiceCosine
 longSine-tick = refl
 
 pub shortSine-le : {a b : ℕ} → a ≤ b → b ≤ quarter → shortSine a ≤ shortSine b
@@ -147,3 +151,32 @@ shortSine-top h = omega (arith, longSine-top h)
 -- off zero even the short sine is at least 1
 pub shortSine-some : {a : ℕ} → 0 < a → a ≤ quarter → 1 ≤ shortSine a
 shortSine-some h l = omega (arith, sineBy-le a-step {a = 1} h l, longSine-tick)
+
+-- ---- the document's words without their divisions
+
+-- "entry k plus the floor of f × (entry k+1 - entry k) / 200,000": what they say of y
+pub record Between (k f y : ℕ) : Type 0 where
+  pub from : entry k ≤ y
+  pub low : (y - entry k) * 200_000 ≤ f * (entry (k + 1) - entry k)
+  pub high : f * (entry (k + 1) - entry k) < (y - entry k + 1) * 200_000
+
+floored : (g f : ℕ) → (f * g / 200_000 * 200_000 ≤ f * g) × (f * g < (f * g / 200_000 + 1) * 200_000)
+floored g f = (div-mul-le-self (f * g) 200_000, omega (arith, lt-div-mul-add {a = f * g} {b = 200_000} (omega arith)))
+
+pub longSine-between : (k f : ℕ) → f < 200_000 → Between k f (longSine (k * 200_000 + f))
+unfolding between
+longSine-between k f h =
+    let g = entry (k + 1) - entry k in
+    let e : longSine (k * 200_000 + f) - entry k ≡ f * g / 200_000 = omega (arith, in-row a-step k h) in
+    let p = floored g f in
+    record { from = omega (arith, in-row a-step k h); low = rw e (p .0); high = rw e (p .1) }
+
+-- at every 200,000 ticks the sine is an entry
+pub longSine-entry : (k : ℕ) → longSine (k * 200_000) ≡ entry k
+longSine-entry k =
+    let n : k * 200_000 ≡ k * 200_000 + 0 = omega arith in
+    rw n (in-row a-step k a-step ∙ between-start a-step k)
+
+-- "long sine divided by 10,000, dropping toward zero"
+pub shortSine-drops : (a : ℕ) → (shortSine a * 10_000 ≤ longSine a) × (longSine a < (shortSine a + 1) * 10_000)
+shortSine-drops a = (omega arith, omega arith)

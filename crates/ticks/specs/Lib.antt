@@ -1,2 +1,3 @@
 pub mod Ticks
 pub mod TickLaws
+pub mod Promises

@@ -16,7 +16,7 @@ use Rattle.sines.specs.Sine.{quarter, shortUnit}
 use Rattle.signed.specs.Sides.{above, below, one-side, same, add-sides, sub-sides, mul-above, mul-below, size-sides}
 use Rattle.signed.specs.Tests.{ltZ-true, ltZ-false, leZ-true, leZ-false, lt-ltZ, le-leZ}
 use Rattle.signed.specs.Machine.{fits-of}
-use Rattle.ticks.specs.Ticks.{north, half, halfTurn, fullTurn, turn, isLatitude, isLongitude, turned, offsetOf, pointRefusal, sheetRefusal}
+use Rattle.ticks.specs.Ticks.{half, fullTurn, isLatitude, isLongitude, turned, offsetOf, pointRefusal, sheetRefusal}
 
 -- ---- the ranges
 
@@ -30,27 +30,27 @@ pub record Longitude (z : ℤ) : Type 0 where
 
 pub latitude : (z : ℤ) → isLatitude z ≡ true → Latitude z
 latitude z e =
-    let p = and-true (leZ (negℤ north) z) (leZ z north) e in
-    let a = leZ-true (negℤ north) z (p .0) in
-    let b = leZ-true z north (p .1) in
+    let p = and-true (leZ (negℤ (pos quarter)) z) (leZ z (pos quarter)) e in
+    let a = leZ-true (negℤ (pos quarter)) z (p .0) in
+    let b = leZ-true z (pos quarter) (p .1) in
     let o = one-side z in
     omega arith
 
 pub is-latitude : (z : ℤ) → Latitude z → isLatitude z ≡ true
-is-latitude z h = true-and (le-leZ (negℤ north) z (omega arith)) (le-leZ z north (omega arith))
+is-latitude z h = true-and (le-leZ (negℤ (pos quarter)) z (omega arith)) (le-leZ z (pos quarter) (omega arith))
 
 pub longitude : (z : ℤ) → isLongitude z ≡ true → Longitude z
 longitude z e =
-    let p = and-true (leZ (negℤ halfTurn) z) (ltZ z halfTurn) e in
-    let a = leZ-true (negℤ halfTurn) z (p .0) in
-    let b = ltZ-true z halfTurn (p .1) in
+    let p = and-true (leZ (negℤ (pos half)) z) (ltZ z (pos half)) e in
+    let a = leZ-true (negℤ (pos half)) z (p .0) in
+    let b = ltZ-true z (pos half) (p .1) in
     let o = one-side z in
     omega arith
 
 pub is-longitude : (z : ℤ) → Longitude z → isLongitude z ≡ true
 is-longitude z h =
     let o = one-side z in
-    true-and (le-leZ (negℤ halfTurn) z (omega arith)) (lt-ltZ z halfTurn (omega arith))
+    true-and (le-leZ (negℤ (pos half)) z (omega arith)) (lt-ltZ z (pos half) (omega arith))
 
 -- by its size
 pub latitude-size : (z : ℤ) → isLatitude z ≡ true → natAbs z ≤ quarter
@@ -67,27 +67,27 @@ longitude-fits {z} e = let h = longitude z e in fits-of w32 z (omega arith) (ome
 
 -- ---- the turn
 
--- `turned` adds k - 1 turns, k at most 2
-record Turned (d r : ℤ) : Type 0 where
-  k : ℕ
-  few : k ≤ 2
-  apart : above r + below d + fullTurn ≡ above d + below r + k * fullTurn
+-- r is d and k - 1 turns, k at most 2
+pub record Turned (d r : ℤ) : Type 0 where
+  pub k : ℕ
+  pub few : k ≤ 2
+  pub apart : above r + below d + fullTurn ≡ above d + below r + k * fullTurn
 
-turned-how : (d : ℤ) → Turned d (turned d)
-turned-how d = go (ltZ d (negℤ halfTurn)) (leZ halfTurn d)
+pub turned-how : (d : ℤ) → Turned d (turned d)
+turned-how d = go (ltZ d (negℤ (pos half))) (leZ (pos half) d)
   where
-    go : (a b : Bool) → Turned d (if a then d +ℤ turn else (if b then d -ℤ turn else d))
-    go true b = record { k = 2; few = omega arith; apart = omega (arith, add-sides d turn) }
-    go false true = record { k = 0; few = omega arith; apart = omega (arith, sub-sides d turn) }
+    go : (a b : Bool) → Turned d (if a then d +ℤ pos fullTurn else (if b then d -ℤ pos fullTurn else d))
+    go true b = record { k = 2; few = omega arith; apart = omega (arith, add-sides d (pos fullTurn)) }
+    go false true = record { k = 0; few = omega arith; apart = omega (arith, sub-sides d (pos fullTurn)) }
     go false false = record { k = 1; few = omega arith; apart = omega arith }
 
 turned-longitude : (d : ℤ) → above d < fullTurn + half → below d ≤ fullTurn + half → Longitude (turned d)
-turned-longitude d p q = go (ltZ d (negℤ halfTurn)) (leZ halfTurn d) refl refl
+turned-longitude d p q = go (ltZ d (negℤ (pos half))) (leZ (pos half) d) refl refl
   where
-    go : (a b : Bool) → ltZ d (negℤ halfTurn) ≡ a → leZ halfTurn d ≡ b → Longitude (if a then d +ℤ turn else (if b then d -ℤ turn else d))
-    go true b e f = omega (arith, ltZ-true d (negℤ halfTurn) e, one-side d, add-sides d turn, one-side (d +ℤ turn))
-    go false true e f = omega (arith, leZ-true halfTurn d f, one-side d, sub-sides d turn, one-side (d -ℤ turn))
-    go false false e f = omega (arith, ltZ-false d (negℤ halfTurn) e, leZ-false halfTurn d f, one-side d)
+    go : (a b : Bool) → ltZ d (negℤ (pos half)) ≡ a → leZ (pos half) d ≡ b → Longitude (if a then d +ℤ pos fullTurn else (if b then d -ℤ pos fullTurn else d))
+    go true b e f = omega (arith, ltZ-true d (negℤ (pos half)) e, one-side d, add-sides d (pos fullTurn), one-side (d +ℤ pos fullTurn))
+    go false true e f = omega (arith, leZ-true (pos half) d f, one-side d, sub-sides d (pos fullTurn), one-side (d -ℤ pos fullTurn))
+    go false false e f = omega (arith, ltZ-false d (negℤ (pos half)) e, leZ-false (pos half) d f, one-side d)
 
 module _ (lon meridian : ℤ) (p : isLongitude lon ≡ true) (q : isLongitude meridian ≡ true) where
   pub offset-longitude : Longitude (offsetOf lon meridian)

@@ -8,28 +8,20 @@ use Rattle.sines.specs.Sine.{quarter}
 use Rattle.refusals.specs.Refusal.{LATITUDE, LONGITUDE, MERIDIAN}
 use Rattle.refusals.specs.Choice.{unless, if_then_else_}
 
-abbrev pub north : ℤ
-north = pos quarter
-
+-- half a turn, and a full one
 abbrev pub half : ℕ
 half = 1_800_000_000
-
-abbrev pub halfTurn : ℤ
-halfTurn = pos half
 
 abbrev pub fullTurn : ℕ
 fullTurn = 3_600_000_000
 
-abbrev pub turn : ℤ
-turn = pos fullTurn
-
 -- "Latitude runs from -900,000,000 to 900,000,000, both allowed."
 abbrev pub isLatitude : ℤ → Bool
-isLatitude z = leZ (negℤ north) z && leZ z north
+isLatitude z = leZ (negℤ (pos quarter)) z && leZ z (pos quarter)
 
 -- "Longitude and central meridian run from -1,800,000,000, allowed, up to but not including 1,800,000,000"
 abbrev pub isLongitude : ℤ → Bool
-isLongitude z = leZ (negℤ halfTurn) z && ltZ z halfTurn
+isLongitude z = leZ (negℤ (pos half)) z && ltZ z (pos half)
 
 -- "A point is accepted exactly when its latitude and longitude lie in these ranges."
 abbrev pub accepted : ℤ → ℤ → Bool
@@ -37,7 +29,7 @@ accepted lat lon = isLatitude lat && isLongitude lon
 
 -- "plus or minus a full turn where needed so that it lies in the longitude range"
 abbrev pub turned : ℤ → ℤ
-turned d = if ltZ d (negℤ halfTurn) then d +ℤ turn else (if leZ halfTurn d then d -ℤ turn else d)
+turned d = if ltZ d (negℤ (pos half)) then d +ℤ pos fullTurn else (if leZ (pos half) d then d -ℤ pos fullTurn else d)
 
 -- "longitude minus central meridian"
 unfoldable pub offsetOf : ℤ → ℤ → ℤ

@@ -8,21 +8,26 @@ use mathlib.Core.Logic.{⊎-elim}
 use Prim.Native.Nat.{ℕ, _≤_}
 use native.Mathlib.Omega.{arith}
 use borrow.Author.Needs.{needs}
+use lib.IntN.{ℤ, pos}
 use lib.ListN.{length}
 use mir.Syntax.{w64}
-use Rattle.refusals.specs.Choice.{if_then_else_}
+use Rattle.refusals.specs.Choice.{if_then_else_, answered}
 use Rattle.signed.specs.Machine.{kept}
 use Rattle.numbers.specs.declared.Mark.{Mark}
 use Rattle.numbers.specs.declared.Kind.{Kind}
+use Rattle.numbers.specs.declared.Number.{Number}
 use Rattle.numbers.specs.declared.Number.the-variants as N
 use Rattle.numbers.specs.declared.digits.Amount.{Amount}
 use Rattle.numbers.specs.declared.digits.Amount.the-variants as A
-use Rattle.numbers.specs.Pieces.{split}
 use Rattle.numbers.specs.PieceLaws.{onward}
-use Rattle.numbers.specs.Number.{namedByte, rangeRefusal, hasMinus, signed, valued, ranged, numberOf}
-use Rattle.numbers.specs.NumberLaws.{plainOf, plain-small, past-within, number-value, number-fault, valued-refused}
+use Rattle.numbers.specs.Number.{namedByte, ranged, numberOf}
+use Rattle.numbers.specs.NumberLaws.{rangeRefusal, ranged-is, hasMinus, signed, amountOf, plain-small, past-within, number-value, number-fault, answered-refused}
 use Rattle.numbers.proofs.read.Statement.{statement}
 use Rattle.numbers.proofs.read.Tie as tie
+
+-- the value, but for what refuses it
+abbrev valued : ℕ → ℤ → Number
+valued n v = answered n N.Refused (N.Value v)
 
 module _ (c : tie.Start) where
   abbrev s : List ℕ
@@ -79,7 +84,7 @@ module _ (c : tie.After-plain) where
   abbrev a : tie.Start
   a = first at
 
-  read : (n : Amount) → c .plain .result ≡ n → plainOf (kind a) (split (namedByte (mark a)) (onward (s a) (at .if1 .from))) ≡ n
+  read : (n : Amount) → c .plain .result ≡ n → amountOf (kind a) (namedByte (mark a)) (onward (s a) (at .if1 .from)) ≡ n
   read n e = sym (c .plain .ensures) ∙ e
 
 fault-requires : tie.Need-fault-requires
@@ -93,7 +98,7 @@ returns c =
 with-sign-requires : tie.Need-with-sign-requires
 with-sign-requires c κs =
     let k = c .before .before .before in
-    plain-small (kind (a k)) _ _ (read k _ (c .before .n .given .1))
+    plain-small (kind (a k)) _ _ _ (read k _ (c .before .n .given .1))
 
 refusal-requires : tie.Need-refusal-requires
 refusal-requires c κs = tt
@@ -109,8 +114,8 @@ module _ (c : tie.After-refusal) where
   abbrev n : ℕ
   n = w .before .before .n .given .0 .0
 
-  value-is : w .with-sign .result ≡ signed (hasMinus (kind (a k)) (s (a k))) n
-  value-is = w .with-sign .ensures ∙ ap (λ (t : Bool). signed t n) (minus (at k))
+  value-is : w .with-sign .result ≡ signed (hasMinus (kind (a k)) (s (a k))) (pos n)
+  value-is = w .with-sign .ensures ∙ ap (λ (t : Bool). signed t (pos n)) (minus (at k))
 
   refusal-is : c .refusal .result ≡ rangeRefusal (kind (a k)) (w .with-sign .result)
   refusal-is = c .refusal .ensures ∙ ap (rangeRefusal (kind (a k))) (kept w64 _ (w .with-sign .ok))
@@ -119,10 +124,11 @@ module _ (c : tie.After-refusal) where
   number-is =
       number-value (kind (a k)) (s (a k)) _ (from (at k)) (mark (a k)) n (read k _ (w .before .before .n .given .1)) ∙
       ap (ranged (kind (a k))) (sym value-is) ∙
+      ranged-is (kind (a k)) (w .with-sign .result) ∙
       ap (λ (r : ℕ). valued r (w .with-sign .result)) (sym refusal-is)
 
 returns-2 : tie.Need-returns-2
-returns-2 c = valued-refused _ _ (c .if2 .taken) ∙ sym (number-is (c .before))
+returns-2 c = answered-refused _ _ (c .if2 .taken) ∙ sym (number-is (c .before))
 
 returns-3 : tie.Need-returns-3
 returns-3 c =

@@ -4,11 +4,12 @@ use mathlib.Core.Path.{_≡_, sym, _∙_}
 use mathlib.Core.Bool.{false}
 use native.Mathlib.Omega.{arith}
 use Rattle.numbers.specs.Pieces.{same}
-use Rattle.route.specs.Route.{routePoint, headerOf}
+use Rattle.numbers.specs.Text.{bytes}
+use Rattle.route.specs.WalkLaws.{headerOf}
 use Rattle.route.proofs.read_header.Statement.{statement}
 use Rattle.route.proofs.read_header.Tie as tie
 
-not-point : (c : tie.Else1) → same (c .before .before .before .before .args .line .now) routePoint ≡ false
+not-point : (c : tie.Else1) → same (c .before .before .before .before .args .line .now) (bytes "route\tpoint") ≡ false
 not-point c = sym (c .before .equal .ensures) ∙ c .if1 .left
 
 slice-aggregate-equal : tie.Need-slice-aggregate-equal

@@ -2,9 +2,7 @@
 -- Assumes nothing.
 use mathlib.Core.Path.{ap, _∙_}
 use mir.Facts.{toZ-ofZ}
-use Rattle.globe.specs.declared.Point.{Point}
 use Rattle.globe.specs.Paper.{pointPaper}
-use Rattle.senruhobi.specs.Doors.{pointOut}
 use Rattle.senruhobi.proofs.senruhobi_cylindrical_back.Statement.{statement}
 use Rattle.senruhobi.proofs.senruhobi_cylindrical_back.Tie as tie
 
@@ -17,7 +15,7 @@ point-requires c κs = tt
 returns : tie.Need-returns
 returns c =
     let f = c .before .before .fits in
-    c .point .ensures ∙ ap (λ (a : Point). pointOut (pointPaper a)) (rw (toZ-ofZ (f .x), toZ-ofZ (f .y), toZ-ofZ (f .meridian)) at (c .before .cylindrical-back .ensures))
+    c .point .ensures ∙ ap pointPaper (rw (toZ-ofZ (f .x), toZ-ofZ (f .y), toZ-ofZ (f .meridian)) at (c .before .cylindrical-back .ensures))
 
 pub senruhobi-cylindrical-back-spec : {M : Type 1} → statement M
 senruhobi-cylindrical-back-spec = tie.close (tie.spec cylindrical-back-requires point-requires returns)

@@ -2,9 +2,7 @@
 -- Assumes nothing.
 use mathlib.Core.Path.{ap, _∙_}
 use mir.Facts.{toZ-ofZ}
-use Rattle.globe.specs.declared.Length.{Length}
 use Rattle.globe.specs.Paper.{lengthPaper}
-use Rattle.senruhobi.specs.Doors.{lengthOut}
 use Rattle.senruhobi.proofs.senruhobi_leg.Statement.{statement}
 use Rattle.senruhobi.proofs.senruhobi_leg.Tie as tie
 
@@ -17,7 +15,7 @@ length-requires c κs = tt
 returns : tie.Need-returns
 returns c =
     let f = c .before .before .fits in
-    c .length .ensures ∙ ap (λ (a : Length). lengthOut (lengthPaper a)) (rw (toZ-ofZ (f .latitude1), toZ-ofZ (f .longitude1), toZ-ofZ (f .latitude2), toZ-ofZ (f .longitude2)) at (c .before .leg .ensures))
+    c .length .ensures ∙ ap lengthPaper (rw (toZ-ofZ (f .latitude1), toZ-ofZ (f .longitude1), toZ-ofZ (f .latitude2), toZ-ofZ (f .longitude2)) at (c .before .leg .ensures))
 
 pub senruhobi-leg-spec : {M : Type 1} → statement M
 senruhobi-leg-spec = tie.close (tie.spec leg-requires length-requires returns)

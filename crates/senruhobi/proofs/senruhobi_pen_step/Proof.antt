@@ -7,7 +7,7 @@ use native.Mathlib.Omega.{arith}
 use borrow.Author.Tests.{ne-eqb}
 use lib.Dec.{eqb}
 use mir.Facts.{toZ-ofZ}
-use Rattle.senruhobi.specs.Doors.{stepOut, penIn}
+use Rattle.pen.specs.Paper.{stepPaper, penOf}
 use Rattle.senruhobi.proofs.senruhobi_pen_step.Statement.{statement}
 use Rattle.senruhobi.proofs.senruhobi_pen_step.Tie as tie
 
@@ -18,7 +18,7 @@ step-requires-2 : tie.Need-step-requires-2
 step-requires-2 c κs = tt
 
 -- 0 is up, any other number down
-pen-in : (n : ℕ) → record { down = not (eqb n 0) } ≡ penIn n
+pen-in : (n : ℕ) → record { down = not (eqb n 0) } ≡ penOf n
 pen-in zero = refl
 pen-in (suc n) = rw (ne-eqb (suc n) 0 (λ e. omega arith))
 
@@ -27,7 +27,7 @@ returns c =
     let s = c .before .before in
     let f = s .fits in
     c .step2 .ensures
-    ∙ ap (stepOut (s .args .pen))
+    ∙ ap (stepPaper (s .args .pen))
     (rw (pen-in (s .args .pen), toZ-ofZ (f .meridian), toZ-ofZ (f .latitude), toZ-ofZ (f .longitude), toZ-ofZ (f .third)) at (c .before .step .ensures))
 
 pub senruhobi-pen-step-spec : {M : Type 1} → statement M

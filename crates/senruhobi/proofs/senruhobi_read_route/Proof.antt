@@ -2,9 +2,7 @@
 -- Assumes nothing.
 use native.Mathlib.Omega.{arith}
 use mathlib.Core.Path.{ap, _∙_}
-use Rattle.route.specs.declared.Reading.{Reading}
 use Rattle.route.specs.Paper.{readingPaper}
-use Rattle.senruhobi.specs.Doors.{readingOut}
 use Rattle.senruhobi.proofs.senruhobi_read_route.Statement.{statement}
 use Rattle.senruhobi.proofs.senruhobi_read_route.Tie as tie
 
@@ -20,7 +18,7 @@ same-length c = omega arith
 returns : tie.Need-returns
 returns c =
     let r = c .before .before in
-    (c .reading .ensures ∙ ap (λ (a : Reading). readingOut (readingPaper a)) (r .read .ensures .0), r .read .ensures .1)
+    (c .reading .ensures ∙ ap readingPaper (r .read .ensures .0), r .read .ensures .1)
 
 pub senruhobi-read-route-spec : {M : Type 1} → statement M
 senruhobi-read-route-spec = tie.close (tie.spec read-requires reading-requires same-length returns)

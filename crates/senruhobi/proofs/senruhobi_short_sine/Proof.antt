@@ -2,9 +2,7 @@
 -- Assumes nothing.
 use mathlib.Core.Path.{ap, _∙_}
 use mir.Facts.{toZ-ofZ}
-use Rattle.globe.specs.declared.Sine.{Sine}
 use Rattle.globe.specs.Paper.{sinePaper}
-use Rattle.senruhobi.specs.Doors.{sineOut}
 use Rattle.senruhobi.proofs.senruhobi_short_sine.Statement.{statement}
 use Rattle.senruhobi.proofs.senruhobi_short_sine.Tie as tie
 
@@ -17,7 +15,7 @@ sine-requires c κs = tt
 returns : tie.Need-returns
 returns c =
     let f = c .before .before .fits in
-    c .sine .ensures ∙ ap (λ (a : Sine). sineOut (sinePaper a)) (rw (toZ-ofZ (f .angle)) at (c .before .short-sine .ensures))
+    c .sine .ensures ∙ ap sinePaper (rw (toZ-ofZ (f .angle)) at (c .before .short-sine .ensures))
 
 pub senruhobi-short-sine-spec : {M : Type 1} → statement M
 senruhobi-short-sine-spec = tie.close (tie.spec short-sine-requires sine-requires returns)

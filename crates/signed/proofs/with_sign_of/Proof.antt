@@ -12,7 +12,8 @@ use mir.ValLaws.{toZ-pos}
 use mir.Facts.{toZ-ofZ}
 use Rattle.signed.specs.Sides.{zero-less}
 use Rattle.signed.specs.Machine.{neg-fits}
-use Rattle.signed.specs.Sign.{signAs, nearest, as-pos, as-neg, as-fits, nearest-self}
+use Rattle.signed.specs.Sign.{signAs, nearest}
+use Rattle.signed.specs.SignLaws.{as-pos, as-neg, as-fits, nearest-self}
 use Rattle.signed.proofs.with_sign_of.Statement.{statement}
 use Rattle.signed.proofs.with_sign_of.Tie as tie
 

@@ -14,7 +14,7 @@ cast-into-turn-2 : tie.Need-cast-into-turn-2
 cast-into-turn-2 c = search signed
 
 sub-into-turn : tie.Need-sub-into-turn
-sub-into-turn c = rw (at64 (c .fits .longitude), at64 (c .fits .meridian)) (sub-fits (c .fits .longitude) (c .fits .meridian))
+sub-into-turn c = let f = c .fits in simp (at64 (f .longitude), at64 (f .meridian)) (search (sub-fits, f .longitude, f .meridian))
 
 into-turn-requires : tie.Need-into-turn-requires
 into-turn-requires c κs = tt

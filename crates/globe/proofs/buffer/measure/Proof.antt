@@ -2,7 +2,8 @@
 -- Assumes nothing.
 use borrow.Author.Needs.{needs}
 use Rattle.globe.specs.Measure.{measureOf}
-use Rattle.globe.specs.LegLaws.{refused}
+use Rattle.globe.specs.AngleLaws.{refused}
+use Rattle.globe.specs.declared.Length.the-variants.{Refused}
 use Rattle.globe.proofs.buffer.measure.Statement.{statement}
 use Rattle.globe.proofs.buffer.measure.Tie as tie
 
@@ -11,7 +12,7 @@ buffer-refusal-requires c κs = tt
 
 returns : tie.Need-returns
 unfolding measureOf
-returns c = rw (← c .before .buffer-refusal .ensures) (refused _ _ (c .if1 .taken))
+returns c = rw (← c .before .buffer-refusal .ensures) (refused Refused _ _ (c .if1 .taken))
 
 length-of-requires : tie.Need-length-of-requires
 length-of-requires c κs = search needs

@@ -8,7 +8,8 @@ use Rattle.ticks.specs.Ticks.{pointRefusal}
 use Rattle.refusals.specs.Tests.{first-none}
 use Rattle.ticks.specs.TickLaws.{point-accepted}
 use Rattle.globe.specs.Leg.{legOf}
-use Rattle.globe.specs.LegLaws.{refused}
+use Rattle.globe.specs.AngleLaws.{refused}
+use Rattle.globe.specs.declared.Length.the-variants.{Refused}
 use Rattle.globe.proofs.legs.leg.Statement.{statement}
 use Rattle.globe.proofs.legs.leg.Tie as tie
 
@@ -33,7 +34,7 @@ first-of-requires c κs = tt
 
 returns : tie.Need-returns
 unfolding legOf
-returns c = rw (← refusal-is (c .before)) (refused _ _ (c .if1 .taken))
+returns c = rw (← refusal-is (c .before)) (refused Refused _ _ (c .if1 .taken))
 
 leg-length-requires : tie.Need-leg-length-requires
 leg-length-requires c κs =

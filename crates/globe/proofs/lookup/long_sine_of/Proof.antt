@@ -6,8 +6,8 @@ use native.Mathlib.Nat.{mul-le-mul}
 use native.Mathlib.Omega.{arith}
 use Rattle.sines.specs.Table.{unit}
 use Rattle.sines.specs.Rules.{rows, growth, last, entry-top}
-use Rattle.sines.specs.Sine.{step, quarter, between, sineBy}
-use Rattle.sines.specs.SineLaws.{longSine-quarter}
+use Rattle.sines.specs.Sine.{step, quarter, sineBy}
+use Rattle.sines.specs.SineLaws.{between, longSine-quarter}
 use Rattle.globe.proofs.lookup.long_sine_of.Statement.{statement}
 use Rattle.globe.proofs.lookup.long_sine_of.Tie as tie
 

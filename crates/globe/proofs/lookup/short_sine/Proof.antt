@@ -12,7 +12,8 @@ use Rattle.signed.specs.Machine.{signed, at64, kept, quot-fits}
 use Rattle.sines.specs.Sine.{shortening}
 use Rattle.ticks.specs.Ticks.{isLatitude}
 use Rattle.refusals.specs.Tests.{passed, failed}
-use Rattle.globe.specs.Angle.{signedLongSine, signedShortSine, shortSineOf}
+use Rattle.globe.specs.Angle.{signedLongSine, shortSineOf}
+use Rattle.globe.specs.AngleLaws.{signedShortSine}
 use Rattle.globe.proofs.lookup.short_sine.Statement.{statement}
 use Rattle.globe.proofs.lookup.short_sine.Tie as tie
 

@@ -7,7 +7,8 @@ use lib.IntN.{natAbs}
 use mir.Syntax.{w64}
 use mir.Val.{SFits}
 use mir.Facts.{toZ-ofZ}
-use Rattle.signed.specs.Sign.{signAs, as-fits, nearest-self}
+use Rattle.signed.specs.Sign.{signAs}
+use Rattle.signed.specs.SignLaws.{as-fits, nearest-self}
 use Rattle.sines.specs.Sine.{longSine}
 use Rattle.sines.specs.SineLaws.{longSine-top}
 use Rattle.ticks.specs.TickLaws.{latitude-size}

@@ -5,8 +5,7 @@ use native.Mathlib.Omega.{arith}
 use Rattle.sines.specs.Table.{unit}
 use Rattle.sines.specs.Rules.{rows, last, entry-top}
 use Rattle.sines.specs.SineLaws.{a-step}
-use Rattle.sines.specs.Back.{LastRow}
-use Rattle.sines.specs.BackLaws.{last-angle-top, gap-some, units, last-angle}
+use Rattle.sines.specs.BackLaws.{LastRow, last-angle-top, gap-some, units, last-angle}
 use Rattle.globe.proofs.search.last_angle.Statement.{statement}
 use Rattle.globe.proofs.search.last_angle.Tie as tie
 

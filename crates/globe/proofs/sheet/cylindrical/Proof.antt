@@ -7,8 +7,10 @@ use mir.Facts.{toZ-ofZ}
 use Rattle.signed.specs.Machine.{kept}
 use Rattle.ticks.specs.Ticks.{offsetOf, sheetRefusal}
 use Rattle.ticks.specs.TickLaws.{sheet-accepted}
+use Rattle.globe.specs.declared.Place.the-variants.{Refused}
 use Rattle.globe.specs.Sheet.{placeOf}
-use Rattle.globe.specs.SheetLaws.{refused, times-one}
+use Rattle.globe.specs.AngleLaws.{refused}
+use Rattle.globe.specs.SheetLaws.{times-one}
 use Rattle.globe.proofs.sheet.cylindrical.Statement.{statement}
 use Rattle.globe.proofs.sheet.cylindrical.Tie as tie
 
@@ -25,7 +27,7 @@ sheet-refusal-requires c κs = tt
 
 returns : tie.Need-returns
 unfolding placeOf
-returns c = rw (← refusal-is (c .before)) (refused _ _ (c .if1 .taken))
+returns c = rw (← refusal-is (c .before)) (refused Refused _ _ (c .if1 .taken))
 
 offset-requires : tie.Need-offset-requires
 offset-requires c κs = tt

@@ -4,21 +4,21 @@ use borrow.Author.Needs.{needs}
 use native.Mathlib.Omega.{arith}
 use mathlib.Core.Path.{_≡_, sym, ap, _∙_}
 use mathlib.Core.Bool.{true}
-use mathlib.Core.Option.{some}
 use Prim.Native.Nat.{ℕ}
 use lib.IntN.{ℤ, natAbs}
 use mir.Syntax.{w64}
 use mir.Val.{toZ, ofZ}
 use mir.Facts.{toZ-ofZ}
 use Rattle.signed.specs.Machine.{signed, at64, kept}
-use Rattle.signed.specs.Sign.{signAs, nearest, as-size, as-fits, nearest-self}
-use Rattle.sines.specs.Back.{LastAngle, angleOf}
-use Rattle.sines.specs.BackLaws.{angleOf-some, angleOf-none}
-use Rattle.sines.specs.Sine.{step}
+use Rattle.signed.specs.Sign.{signAs, nearest}
+use Rattle.signed.specs.SignLaws.{as-size, as-fits, nearest-self}
+use Rattle.sines.specs.BackLaws.{LastAngle}
+use Rattle.sines.specs.Sine.{step, longSine}
 use Rattle.ticks.specs.Ticks.{isLatitude, isLongitude}
 use Rattle.refusals.specs.Tests.{passed, failed}
 use Rattle.ticks.specs.TickLaws.{size-latitude, latitude-fits}
-use Rattle.globe.specs.Sheet.{backOf}
+use Rattle.globe.specs.Sheet.{cylinder, backOf}
+use Rattle.globe.specs.SheetLaws.{back-nobody, back-at, latitude-is, height-is, sine-is}
 use Rattle.globe.proofs.sheet.cylindrical_back.Statement.{statement}
 use Rattle.globe.proofs.sheet.cylindrical_back.Tie as tie
 
@@ -62,11 +62,10 @@ module _ (c : tie.After-long-sine-of) where
   last = rw size-is at (c .before .last-angle .ensures)
 
 returns-2 : tie.Need-returns-2
-unfolding backOf
 returns-2 c =
     let d = c .before in
-    let n = angleOf-none (last d) (λ e. c .if2 .taken (d .long-sine-of .ensures ∙ e ∙ sym (size-is d))) in
-    rw (meridian-ok (d .before .before .before), n)
+    let a = s d .args in
+    rw (back-nobody cylinder (a .x) (a .y) (a .meridian) (meridian-ok (d .before .before .before)) (λ _ e. c .if2 .taken (d .long-sine-of .ensures ∙ sine-is (y d) (last d) e ∙ sym (size-is d))))
 
 cast-with-sign-of : tie.Need-cast-with-sign-of
 cast-with-sign-of c = omega arith
@@ -79,8 +78,8 @@ module _ (c : tie.After-with-sign-of) where
   abbrev d : tie.After-long-sine-of
   d = c .before .before
 
-  found : angleOf (natAbs (y d)) ≡ some (a d)
-  found = angleOf-some (last d) (sym (d .long-sine-of .ensures) ∙ c .before .if2 .left ∙ size-is d)
+  sine : longSine (a d) ≡ natAbs (y d)
+  sine = sym (d .long-sine-of .ensures) ∙ c .before .if2 .left ∙ size-is d
 
   in-range : isLatitude (signAs (y d) (a d)) ≡ true
   in-range = size-latitude (signAs (y d) (a d)) (omega (arith, as-size (y d) (a d), last d .inside))
@@ -101,11 +100,12 @@ point-at-requires c κs =
     rw (toZ-ofZ (s .fits .meridian)) (omega arith, meridian-ok (d c .before .before .before))
 
 returns-3 : tie.Need-returns-3
-unfolding backOf
 returns-3 c =
     let w = c .before in
     let f = s (d w) .fits in
-    rw (meridian-ok (d w .before .before .before), found w)
+    let g = s (d w) .args in
+    let l = last (d w) in
+    rw (back-at cylinder (g .x) (g .y) (g .meridian) (meridian-ok (d w .before .before .before)) _ (latitude-is (y (d w)) l) (in-range w) (height-is (y (d w)) l (sine w)))
     (rw (is w, toZ-ofZ (latitude-fits (in-range w)), toZ-ofZ (f .x), toZ-ofZ (f .meridian)) at (c .point-at .ensures))
 
 pub cylindrical-back-spec : {M : Type 1} → statement M

@@ -12,9 +12,9 @@ use Rattle.signed.specs.Machine.{signed, at64, kept}
 use Rattle.ticks.specs.Ticks.{offsetOf, sheetRefusal}
 use Rattle.ticks.specs.TickLaws.{sheet-accepted, offset-longitude, product-fits}
 use Rattle.globe.specs.Angle.{shortCosine}
-use Rattle.globe.specs.AngleLaws.{cosine-top}
+use Rattle.globe.specs.AngleLaws.{refused, cosine-top}
+use Rattle.globe.specs.declared.Place.the-variants.{Refused}
 use Rattle.globe.specs.Sheet.{placeOf}
-use Rattle.globe.specs.SheetLaws.{refused}
 use Rattle.globe.proofs.sheet.sinusoidal.Statement.{statement}
 use Rattle.globe.proofs.sheet.sinusoidal.Tie as tie
 
@@ -31,7 +31,7 @@ sheet-refusal-requires c κs = tt
 
 returns : tie.Need-returns
 unfolding placeOf
-returns c = rw (← refusal-is (c .before)) (refused _ _ (c .if1 .taken))
+returns c = rw (← refusal-is (c .before)) (refused Refused _ _ (c .if1 .taken))
 
 short-cosine-requires : tie.Need-short-cosine-requires
 short-cosine-requires c κs =

@@ -2,18 +2,19 @@
 -- Assumes nothing.
 use borrow.Author.Needs.{needs}
 use native.Mathlib.Omega.{arith}
-use mathlib.Core.Path.{_≡_}
+use mathlib.Core.Path.{_≡_, refl}
 use mathlib.Core.Bool.{true}
 use mir.Syntax.{w32, w64}
 use mir.Val.{toZ, ofZ}
 use mir.Facts.{toZ-ofZ}
 use Rattle.signed.specs.Machine.{signed, at32, at64}
 use Rattle.ticks.specs.Ticks.{isLatitude, isLongitude}
-use Rattle.refusals.specs.Tests.{passed, failed}
+use Rattle.refusals.specs.Tests.{clash, passed, failed}
 use Rattle.ticks.specs.TickLaws.{latitude-fits}
 use Rattle.globe.specs.Angle.{shortCosine}
 use Rattle.globe.specs.AngleLaws.{cosine-top}
-use Rattle.globe.specs.Sheet.{backOf}
+use Rattle.globe.specs.Sheet.{sinusoid, backOf}
+use Rattle.globe.specs.SheetLaws.{back-nobody, back-at}
 use Rattle.globe.proofs.sheet.sinusoidal_back.Statement.{statement}
 use Rattle.globe.proofs.sheet.sinusoidal_back.Tie as tie
 
@@ -34,10 +35,11 @@ is-latitude-requires : tie.Need-is-latitude-requires
 is-latitude-requires c κs = tt
 
 returns-2 : tie.Need-returns-2
-unfolding backOf
 returns-2 c =
-    let f = c .before .before .before .before .fits .y in
-    rw (meridian-ok (c .before .before), failed isLatitude (toZ-ofZ f) (c .before .is-latitude .ensures) (c .if2 .taken))
+    let s = c .before .before .before .before in
+    let a = s .args in
+    let no = failed isLatitude (toZ-ofZ (s .fits .y)) (c .before .is-latitude .ensures) (c .if2 .taken) in
+    rw (back-nobody sinusoid (a .x) (a .y) (a .meridian) (meridian-ok (c .before .before)) (λ t _. clash t no))
 
 -- y is a latitude, and the machine has it so
 module _ (c : tie.Else2) where
@@ -65,10 +67,10 @@ point-at-requires c κs =
     rw (toZ-ofZ (s d .fits .meridian)) (omega (arith, width-is c, cosine-top (s d .args .y)), meridian-ok (d .before .before))
 
 returns-3 : tie.Need-returns-3
-unfolding backOf
 returns-3 c =
     let d = c .before .before in
-    rw (meridian-ok (d .before .before), in-range d, ← width-is (c .before))
+    let a = s d .args in
+    rw (back-at sinusoid (a .x) (a .y) (a .meridian) (meridian-ok (d .before .before)) (a .y) refl (in-range d) refl, ← width-is (c .before))
     (rw (y-is d, toZ-ofZ (s d .fits .x), toZ-ofZ (s d .fits .meridian)) at (c .point-at .ensures))
 
 pub sinusoidal-back-spec : {M : Type 1} → statement M

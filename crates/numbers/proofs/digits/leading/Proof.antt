@@ -11,8 +11,7 @@ use borrow.Author.Tests.{ltb-true, not-true, not-false}
 use lib.Dec.{lit<, ltb}
 use lib.ListN.{length, drop, getD}
 use Rattle.refusals.specs.Tests.{and-true}
-use Rattle.numbers.specs.Number.{isDigit, valueFrom}
-use Rattle.numbers.specs.DigitLaws.{mostDigits, leading, digit-range, leading-next, leading-stop, leading-done}
+use Rattle.numbers.specs.DigitLaws.{mostDigits, isDigit, valueFrom, leading, digit-range, leading-next, leading-stop, leading-done}
 use Rattle.numbers.proofs.digits.leading.Statement.{statement}
 use Rattle.numbers.proofs.digits.leading.Tie as tie
 

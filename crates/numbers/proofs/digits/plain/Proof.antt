@@ -13,11 +13,10 @@ use Rattle.refusals.specs.Tests.{or-false}
 use Rattle.numbers.specs.declared.Kind.{Kind}
 use Rattle.numbers.specs.declared.digits.Amount.{Amount}
 use Rattle.numbers.specs.declared.digits.Amount.the-variants as A
-use Rattle.numbers.specs.Pieces.{split}
 use Rattle.numbers.specs.PieceLaws.{onward}
-use Rattle.numbers.specs.Number.{namedByte, wholes, places, isDigit, valueFrom, valueOf}
-use Rattle.numbers.specs.DigitLaws.{mostDigits, leading, leading-most, leading-within}
-use Rattle.numbers.specs.NumberLaws.{no-digit, wholes-room, places-room, plainOf, plain-small, plain-none, plain-other, plain-whole, plain-bad, plain-both}
+use Rattle.numbers.specs.Number.{namedByte, places, valueOf}
+use Rattle.numbers.specs.DigitLaws.{mostDigits, isDigit, valueFrom, value-first, leading, leading-most, leading-within}
+use Rattle.numbers.specs.NumberLaws.{wholes, no-digit, wholes-room, places-room, amountOf, plain-small, plain-none, plain-other, plain-whole, plain-bad, plain-both}
 use Rattle.numbers.proofs.digits.plain.Statement.{statement}
 use Rattle.numbers.proofs.digits.plain.Tie as tie
 
@@ -28,7 +27,7 @@ scaling v p = A.Value (v * 10 ^ p)
 -- the digits that stand first
 module _ (c : tie.After-leading) where
   abbrev start : tie.Start
-  start = c .before .before .before .before
+  start = c .before .before .before
 
   abbrev s : List ℕ
   s = start .args .s .now
@@ -41,19 +40,19 @@ module _ (c : tie.After-leading) where
 
   -- those before the mark
   abbrev first : List ℕ
-  first = leading (wholes kind) s
+  first = leading wholes s
 
   count-is : c .leading .result .count ≡ length first
-  count-is = rw (← c .before .wholes .ensures) (c .leading .ensures .0)
+  count-is = c .leading .ensures .0
 
   value-is : c .leading .result .value ≡ valueOf first
-  value-is = rw (← c .before .wholes .ensures) (c .leading .ensures .1)
+  value-is = c .leading .ensures .1 ∙ value-first first
 
-  places-is : c .before .before .places .result ≡ places kind
-  places-is = c .before .before .places .ensures
+  places-is : c .before .places .result ≡ places kind
+  places-is = c .before .places .ensures
 
-  small : (n : ℕ) → plainOf kind (split mark s) ≡ A.Value n → n < 10 ^ mostDigits
-  small n e = plain-small kind (split mark s) n e
+  small : (n : ℕ) → amountOf kind mark s ≡ A.Value n → n < 10 ^ mostDigits
+  small n e = plain-small kind mark s n e
 
   no-mark : isDigit mark ≡ false
   no-mark = no-digit (start .args .mark)
@@ -61,11 +60,8 @@ module _ (c : tie.After-leading) where
 places-requires : tie.Need-places-requires
 places-requires c κs = tt
 
-wholes-requires : tie.Need-wholes-requires
-wholes-requires c κs = tt
-
 leading-requires : tie.Need-leading-requires
-leading-requires c κs = rw (c .wholes .ensures) (wholes-room (c .before .before .before .args .kind))
+leading-requires c κs = wholes-room (c .before .before .args .kind)
 
 returns : tie.Need-returns
 returns c = let f = c .before in sym (plain-none (kind f) (mark f) (no-mark f) (s f) (sym (count-is f) ∙ c .if1 .taken))
@@ -76,7 +72,7 @@ some c = omega (arith, count-is (c .before))
 
 -- they are all
 whole : (c : tie.Then2) → let f = c .before .before in
-    plainOf (kind f) (split (mark f) (s f)) ≡ A.Value (f .leading .result .value * 10 ^ f .before .before .places .result)
+    amountOf (kind f) (mark f) (s f) ≡ A.Value (f .leading .result .value * 10 ^ f .before .places .result)
 whole c =
     let f = c .before .before in
     plain-whole (kind f) (mark f) (no-mark f) (s f) (some (c .before)) (sym (count-is f) ∙ c .if2 .taken) ∙ ap₂ scaling (sym (value-is f)) (sym (places-is f))
@@ -89,7 +85,7 @@ returns-2 c = rw (c .scaled .ensures) (sym (whole (c .before)))
 
 -- a byte stands after them
 more : (c : tie.Else2) → let f = c .before .before in f .leading .result .count < length (s f)
-more c = let f = c .before .before in omega (arith, leading-within (wholes (kind f)) (s f), count-is f)
+more c = let f = c .before .before in omega (arith, leading-within (wholes) (s f), count-is f)
 
 shared-slice-read-if3 : tie.Need-shared-slice-read-if3
 shared-slice-read-if3 c = more (c .before)
@@ -121,7 +117,7 @@ part-decimals-end c = omega arith
 leading-requires-2 : tie.Need-leading-requires-2
 leading-requires-2 c κs =
     let f = c .before .before .before .before .before .before in
-    let e : (f .leading .result .value + 1) * 10 ^ f .before .before .places .result ≡ (valueOf (first f) + 1) * 10 ^ places (kind f) = ap₂ (λ (v p : ℕ). (v + 1) * 10 ^ p) (value-is f) (places-is f) in
+    let e : (f .leading .result .value + 1) * 10 ^ f .before .places .result ≡ (valueOf (first f) + 1) * 10 ^ places (kind f) = ap₂ (λ (v p : ℕ). (v + 1) * 10 ^ p) (value-is f) (places-is f) in
     omega (arith, places-room (kind f) (s f))
 
 -- the mark stands after them, and then what is read on
@@ -167,7 +163,7 @@ module _ (c : tie.Else4) where
   abbrev k : tie.After-leading2
   k = c .before
 
-  both : plainOf (kind (f k)) (split (mark (f k)) (s (f k))) ≡ A.Value (k .leading2 .result .value * 10 ^ (f k .before .before .places .result - k .leading2 .result .count))
+  both : amountOf (kind (f k)) (mark (f k)) (s (f k)) ≡ A.Value (k .leading2 .result .value * 10 ^ (f k .before .places .result - k .leading2 .result .count))
   both =
       let q = count2-is k in
       let t = or-false (eqb (k .leading2 .result .count) 0) (not (eqb (k .leading2 .result .count) (length (after k)))) (c .if4 .left) in
@@ -190,7 +186,6 @@ plain-spec =
     tie.close
     (tie.spec
     places-requires
-    wholes-requires
     leading-requires
     returns
     scaled-requires

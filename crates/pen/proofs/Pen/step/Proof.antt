@@ -13,10 +13,9 @@ use Rattle.signed.specs.Machine.{kept}
 use Rattle.sines.specs.Sine.{shortUnit}
 use Rattle.globe.specs.declared.Place.{Place}
 use Rattle.globe.specs.Sheet.{sinusoidalOf}
-use Rattle.pen.specs.Position.{furthest}
-use Rattle.pen.specs.Pen.{isWindow, isDivisor, stepAt, stepOf}
+use Rattle.pen.specs.Pen.{isWindow, isDivisor, drawn, stepAt, stepOf}
 use Rattle.pen.specs.PenLaws.{no-window, no-divisor, step-placed}
-use Rattle.pen.specs.Reach.{place-within}
+use Rattle.pen.specs.Reach.{furthest, place-within}
 use Rattle.pen.proofs.Pen.step.Statement.{statement}
 use Rattle.pen.proofs.Pen.step.Tie as tie
 
@@ -55,10 +54,10 @@ place-is c =
 -- what is left to answer, by it
 left : (c : tie.After-sinusoidal) {p : Place} → c .sinusoidal .result ≡ p
     → (let a = c .before .before .before .before .before .args in
-    stepAt (a .self) (a .window) (a .divisor) (a .third) p ≡ stepOf (a .self) (a .window) (a .divisor) (a .meridian) (a .latitude) (a .longitude) (a .third))
+    stepAt (a .self) (drawn (a .self) (a .window) (a .divisor) (a .third)) p ≡ stepOf (a .self) (a .window) (a .divisor) (a .meridian) (a .latitude) (a .longitude) (a .third))
 left c e =
     let a = c .before .before .before .before .before .args in
-    ap (stepAt (a .self) (a .window) (a .divisor) (a .third)) (sym e ∙ place-is c)
+    ap (stepAt (a .self) (drawn (a .self) (a .window) (a .divisor) (a .third))) (sym e ∙ place-is c)
     ∙ sym (step-placed _ _ _ _ _ _ _ (window-passed (c .before .before .before)) (divisor-passed (c .before)))
 
 -- x and y, as the machine has them, and how far they reach

@@ -3,7 +3,7 @@
 use mathlib.Core.Path.{sym, ap}
 use native.Mathlib.Omega.{arith}
 use borrow.Author.Needs.{needs}
-use Rattle.route.specs.Line.{afterOf}
+use Rattle.route.specs.LineLaws.{stateAfter}
 use Rattle.route.proofs.lines.after.Statement.{statement}
 use Rattle.route.proofs.lines.after.Tie as tie
 
@@ -13,8 +13,8 @@ enum-known-line c = search needs
 enum-told : tie.Need-enum-told
 enum-told c = search needs
 
-add-t10 : tie.Need-add-t10
-add-t10 c = omega arith
+add-t8 : tie.Need-add-t8
+add-t8 c = omega arith
 
 enum-told-2 : tie.Need-enum-told-2
 enum-told-2 c = search needs
@@ -23,13 +23,13 @@ enum-told-3 : tie.Need-enum-told-3
 enum-told-3 c = search needs
 
 returns : tie.Need-returns
-returns c = sym (ap (afterOf _) (c .before .line .given .1))
+returns c = sym (ap (stateAfter _) (c .before .line .given .1))
 
 returns-2 : tie.Need-returns-2
-returns-2 c = sym (ap (afterOf _) (c .enum-told .given .1))
+returns-2 c = sym (ap (stateAfter _) (c .enum-told .given .1))
 
 returns-3 : tie.Need-returns-3
-returns-3 c = sym (ap (afterOf _) (c .enum-told2 .given .1))
+returns-3 c = sym (ap (stateAfter _) (c .enum-told2 .given .1))
 
 returns-4 : tie.Need-returns-4
 returns-4 c = search needs
@@ -40,7 +40,7 @@ after-spec =
     (tie.spec
     enum-known-line
     enum-told
-    add-t10
+    add-t8
     enum-told-2
     enum-told-3
     returns

@@ -11,13 +11,14 @@ use Rattle.signed.specs.Machine.{kept, at32}
 use Rattle.points.specs.Points.{mostPoints}
 use Rattle.ticks.specs.TickLaws.{latitude-fits, longitude-fits}
 use Rattle.numbers.specs.Pieces.{isByte}
-use Rattle.route.specs.Line.{pByte, pointOf}
+use Prim.Native.Char.{code}
+use Rattle.route.specs.Line.{pointOf}
 use Rattle.numbers.specs.declared.Kind.the-variants as K
 use Rattle.numbers.specs.NumberLaws.{number-in, latitude-in, longitude-in}
 use Rattle.route.proofs.lines.point.Statement.{statement}
 use Rattle.route.proofs.lines.point.Tie as tie
 
-is-p : (c : tie.Else1) → isByte pByte (c .before .before .before .before .before .args .kind .now) ≡ true
+is-p : (c : tie.Else1) → isByte (code "p") (c .before .before .before .before .before .args .kind .now) ≡ true
 is-p c = sym (c .before .is-byte .ensures) ∙ not-false _ (c .if1 .left)
 
 few : (c : tie.Else2) → ltb (c .before .before .before .before .before .before .args .points) mostPoints ≡ true

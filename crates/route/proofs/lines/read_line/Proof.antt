@@ -5,14 +5,13 @@ use mathlib.Core.List.{List}
 use Prim.Native.Nat.{ℕ, _+_, _≤_, _<_}
 use native.Mathlib.Omega.{arith}
 use borrow.Author.Needs.{needs}
-use borrow.Author.Tests.{ltb-true, ltb-false}
 use lib.ListN.{length}
 use lib.Seq.{length-take-le}
 use Rattle.route.specs.declared.lines.Line.the-variants as L
 use Rattle.refusals.specs.Refusal.{LINE}
-use Rattle.numbers.specs.Pieces.{TAB, indexOf}
-use Rattle.numbers.specs.PieceLaws.{onward}
-use Rattle.route.specs.Line.{lineOf}
+use Rattle.numbers.specs.Pieces.{TAB, split, indexOf}
+use Rattle.numbers.specs.PieceLaws.{onward, held-within, none-held}
+use Rattle.route.specs.Line.{fieldsOf}
 use Rattle.route.specs.LineLaws.{LastSays, last-says, one-field, two-fields, three-fields, more-fields}
 use Rattle.route.proofs.Tags.{last-free}
 use Rattle.route.proofs.lines.read_line.Statement.{statement}
@@ -35,7 +34,7 @@ gap-requires c κs = tt
 returns : tie.Need-returns
 returns c =
     let f = c .before .before in
-    c .gap .ensures ∙ sym (one-field _ _ (f .before .before .args .s .now) (omega (arith, f .find .ensures .0)))
+    c .gap .ensures ∙ sym (one-field _ _ _ (f .before .before .args .s .now) (omega (arith, f .find .ensures .0)))
 
 slice-aggregate-kind : tie.Need-slice-aggregate-kind
 slice-aggregate-kind c = sym (length-take-le _ _ (c .before .before .find .ensures .1))
@@ -65,7 +64,7 @@ returns-2 c =
     let s = f .before .before .args .s .now in
     let i = f .find .result in
     c .target .ensures ∙
-    sym (two-fields _ _ s i (f .find .ensures .0) (first (g .before .before .before)) (onward s (i + 1)) refl (omega (arith, g .find2 .ensures .0)))
+    sym (two-fields _ _ _ s i (f .find .ensures .0) (first (g .before .before .before)) (onward s (i + 1)) refl (omega (arith, g .find2 .ensures .0)))
 
 add-last : tie.Need-add-last
 add-last c = omega arith
@@ -108,23 +107,23 @@ module _ (c : tie.After-point) where
   abbrev last : List ℕ
   last = onward t (g .find2 .result + 1)
 
-  more : indexOf TAB last < length last → lineOf (f .before .before .args .mark) (f .before .before .args .st) s ≡ L.Refused LINE
+  more : indexOf TAB last < length last → fieldsOf (f .before .before .args .mark) (f .before .before .args .st .before) (f .before .before .args .st .points) (split TAB s) ≡ L.Refused LINE
   more =
-      more-fields _ _ s (f .find .result) (f .find .ensures .0) (first (g .before .before .before)) t refl
+      more-fields _ _ _ s (f .find .result) (f .find .ensures .0) (first (g .before .before .before)) t refl
       (g .find2 .result) (g .find2 .ensures .0) (second (c .before .before .before)) last refl
 
-  three : length last ≤ indexOf TAB last → c .point .result ≡ lineOf (f .before .before .args .mark) (f .before .before .args .st) s
+  three : length last ≤ indexOf TAB last → c .point .result ≡ fieldsOf (f .before .before .args .mark) (f .before .before .args .st .before) (f .before .before .args .st .points) (split TAB s)
   three h =
       c .point .ensures ∙
       sym
-      (three-fields _ _ s (f .find .result) (f .find .ensures .0) (first (g .before .before .before)) t refl
+      (three-fields _ _ _ s (f .find .result) (f .find .ensures .0) (first (g .before .before .before)) t refl
       (g .find2 .result) (g .find2 .ensures .0) (second (c .before .before .before)) last refl h)
 
 returns-3 : tie.Need-returns-3
-returns-3 c = sym (more (c .before .before .before .before) (ltb-true _ _ (sym (c .before .has .ensures) ∙ c .if3 .taken)))
+returns-3 c = let k = c .before .before .before .before in sym (more k (held-within TAB (last k) (sym (c .before .has .ensures) ∙ c .if3 .taken)))
 
 returns-4 : tie.Need-returns-4
-returns-4 c = three (c .before .before .before .before) (ltb-false _ _ (sym (c .before .has .ensures) ∙ c .if3 .left))
+returns-4 c = let k = c .before .before .before .before in three k (none-held TAB (last k) (sym (c .before .has .ensures) ∙ c .if3 .left))
 
 returns-5 : tie.Need-returns-5
 returns-5 c =

@@ -4,22 +4,24 @@ use mathlib.Core.Path.{_≡_, sym, ap, _∙_}
 use mathlib.Core.Bool.{true}
 use native.Mathlib.Omega.{arith}
 use borrow.Author.Needs.{needs}
-use borrow.Author.Tests.{not-true, not-false}
+use Prim.Native.Char.{code}
+use lib.Dec.{eqb}
+use borrow.Author.Tests.{not-true, not-false, eq-eqb, ne-eqb}
 use lib.IntN.{natAbs}
 use mir.Syntax.{w64}
 use Rattle.signed.specs.Machine.{kept}
 use Rattle.numbers.specs.Pieces.{isByte}
 use Rattle.numbers.specs.declared.Kind.the-variants as K
 use Rattle.numbers.specs.NumberLaws.{number-size}
-use Rattle.route.specs.Line.{isFirst, tByte, targetOf}
+use Rattle.route.specs.Line.{targetOf}
 use Rattle.route.proofs.lines.target.Statement.{statement}
 use Rattle.route.proofs.lines.target.Tie as tie
 
-is-t : (c : tie.Else1) → isByte tByte (c .before .before .before .before .args .kind .now) ≡ true
+is-t : (c : tie.Else1) → isByte (code "t") (c .before .before .before .before .args .kind .now) ≡ true
 is-t c = sym (c .before .is-byte .ensures) ∙ not-false _ (c .if1 .left)
 
-first : (c : tie.Else2) → isFirst (c .before .before .before .before .before .before .args .before) ≡ true
-first c = sym (c .before .is-first .ensures) ∙ not-false _ (c .if2 .left)
+first : (c : tie.Else2) → eqb (c .before .before .before .before .before .args .before) (code "r") ≡ true
+first c = eq-eqb _ (code "r") (c .if2 .left)
 
 size : (c : tie.After-size64) → c .size64 .result ≡ natAbs (c .before .before .number .given .0 .0)
 size c = c .size64 .ensures ∙ ap natAbs (kept w64 (c .before .before .number .given .0 .0) (c .before .known-told .given .0 .1))
@@ -31,12 +33,9 @@ returns : tie.Need-returns
 unfolding targetOf
 returns c = rw (sym (c .before .is-byte .ensures) ∙ not-true _ (c .if1 .taken))
 
-is-first-requires : tie.Need-is-first-requires
-is-first-requires c κs = tt
-
 returns-2 : tie.Need-returns-2
 unfolding targetOf
-returns-2 c = rw (is-t (c .before .before), sym (c .before .is-first .ensures) ∙ not-true _ (c .if2 .taken))
+returns-2 c = rw (is-t (c .before), ne-eqb _ (code "r") (c .if2 .taken))
 
 read-requires : tie.Need-read-requires
 read-requires c κs = tt
@@ -55,7 +54,7 @@ unfolding targetOf
 returns-3 c =
     let n = c .before .before .before in
     let d = n .before in
-    rw (is-t (d .before .before), first d, ← n .read .ensures, c .refusal-of .ensures, c .before .enum-told .given .1)
+    rw (is-t (d .before), first d, ← n .read .ensures, c .refusal-of .ensures, c .before .enum-told .given .1)
 
 size64-requires : tie.Need-size64-requires
 size64-requires c κs = tt
@@ -64,7 +63,7 @@ mul-t12 : tie.Need-mul-t12
 mul-t12 c =
     let v = c .before .before in
     let n = v .before .before in
-    let s = n .before .before .before .before .before .before .before in
+    let s = n .before .before .before .before .before .before in
     let few = number-size K.Target (s .args .mark) (s .args .field .now) (v .number .given .0 .0) (sym (n .read .ensures) ∙ v .number .given .1) in
     omega (arith, size c, few)
 
@@ -74,7 +73,7 @@ returns-4 c =
     let v = c .before .before in
     let n = v .before .before in
     let d = n .before in
-    rw (is-t (d .before .before), first d, ← n .read .ensures, v .number .given .1, size c)
+    rw (is-t (d .before), first d, ← n .read .ensures, v .number .given .1, size c)
 
 pub target-spec : {M : Type 1} → statement M
 target-spec =
@@ -82,7 +81,6 @@ target-spec =
     (tie.spec
     is-byte-requires
     returns
-    is-first-requires
     returns-2
     read-requires
     enum-known-number

@@ -1,44 +1,38 @@
--- `read_lines` meets its contract. The loop's invariant: what is left of the text, judged from this line and state, answers what the whole text
--- answers, and puts into our buffer, behind the points so far, what the whole text puts into it from its start; there are no more points than
--- the most, so there is room for them; and the line's number grows by no more than the bytes that were passed.
+-- `read_lines` meets its contract. The loop's invariant: what is left of the text, walked from this line, with the state and the numbers in our
+-- buffer for what was seen, comes to what the whole text comes to; there are no more points than the most, so there is room for them; and the
+-- line's number grows by no more than the bytes that were passed.
 -- Assumes nothing.
-use mathlib.Core.Path.{_≡_, refl, sym, ap, _∙_}
-use mathlib.Core.List.{List, _++_}
+use mathlib.Core.Path.{_≡_, refl, sym, ap, subst, _∙_}
+use mathlib.Core.List.{List}
 use Prim.Native.Nat.{ℕ, _+_, _*_, _≤_, _<_}
 use native.Mathlib.Omega.{arith}
 use borrow.Author.Needs.{needs}
-use lib.IntN.{ℤ}
 use lib.ListN.{length, take}
-use lib.Seq.{sets, length-take-le}
+use lib.Seq.{length-take-le}
 use Rattle.points.specs.Points.{numbers, mostPoints}
 use Rattle.numbers.specs.declared.Mark.{Mark}
-use Rattle.route.specs.declared.lines.Line.{Line}
 use Rattle.numbers.specs.Pieces.{LF, split}
-use Rattle.numbers.specs.PieceLaws.{onward, onward-less}
-use Rattle.route.specs.Line.{fresh, afterOf, numbersOf}
-use Rattle.route.specs.Route.{judgeFrom, pointsFrom}
-use Rattle.route.specs.LineLaws.{line-few, line-counted}
-use Rattle.route.specs.RouteLaws.{counted, few}
-use Rattle.route.specs.WalkLaws.{held-refused, judge-last, judge-step, judge-refused, points-last, points-step, sets-append, sets-written}
+use Rattle.numbers.specs.PieceLaws.{onward-less}
+use Rattle.route.specs.declared.lines.Line.{Line}
+use Rattle.route.specs.declared.reader.Judged.{Judged}
+use Rattle.route.specs.Line.{fresh, lineOf}
+use Rattle.route.specs.Route.{walkFrom}
+use Rattle.route.specs.LineLaws.{stateAfter, seenIn, seen-line, seen-after, line-few, line-counted}
+use Rattle.route.specs.WalkLaws.{came, fewIn, end-came, end-few, walk-last, walk-step, walk-refused}
 use Rattle.route.proofs.Tags.{goes-on}
 use Rattle.route.proofs.reader.read_lines.Statement.{statement}
 use Rattle.route.proofs.reader.read_lines.Tie as tie
 
 abbrev Inv-loop : tie.InvT-loop
-Inv-loop text mark own₀ rest₀ line₀ st₀ own rest line st =
+Inv-loop text mark room own₀ rest₀ line₀ st₀ own rest line st =
     (2 ≤ line) × (line + length rest ≤ 2 + length text) × (st .points ≤ mostPoints) × (length own ≡ length own₀) ×
-    (judgeFrom mark line (split LF rest) st ≡ judgeFrom mark 2 (split LF text) fresh) ×
-    (sets own (numbers * st .points) (pointsFrom mark (split LF rest) st) ≡ sets own₀ 0 (pointsFrom mark (split LF text) fresh))
+    (walkFrom mark room line (seenIn st own) (split LF rest) ≡ walkFrom mark room 2 fresh (split LF text))
 
 abbrev μ-loop : tie.MeasureT-loop
-μ-loop text mark own₀ rest₀ line₀ st₀ own rest line st = length rest
+μ-loop text mark room own₀ rest₀ line₀ st₀ own rest line st = length rest
 
 abbrev start : tie.After-find Inv-loop μ-loop → tie.Start Inv-loop μ-loop
 start f = f .before .before .before .before
-
--- the numbers of all points
-abbrev points : tie.Start Inv-loop μ-loop → List ℤ
-points s = pointsFrom (s .args .mark) (split LF (s .args .text .now)) fresh
 
 inside : (c : tie.Else1 Inv-loop μ-loop) → c .before .find .result < length (c .before .before .loop .rest .now)
 inside c = omega (arith, c .before .find .ensures .1)
@@ -47,13 +41,13 @@ fresh-requires : tie.Need-fresh-requires Inv-loop μ-loop
 fresh-requires c κs = tt
 
 loop-holds : tie.Need-loop-holds Inv-loop μ-loop
-loop-holds c = rw (c .fresh .ensures) (omega arith, omega arith, omega arith, refl, refl, refl)
+loop-holds c = rw (c .fresh .ensures) (omega arith, omega arith, omega arith, refl, refl)
 
 find-requires : tie.Need-find-requires Inv-loop μ-loop
 find-requires c κs = tt
 
 ending-requires : tie.Need-ending-requires Inv-loop μ-loop
-ending-requires c κs = omega (arith, c .before .before .loop .inv .0)
+ending-requires c κs = let i = c .before .before .loop .inv in (omega (arith, i .0), i .2)
 
 same-length : tie.Need-same-length Inv-loop μ-loop
 same-length c = c .before .before .before .loop .inv .3
@@ -62,19 +56,12 @@ returns : tie.Need-returns Inv-loop μ-loop
 returns c =
     let f = c .before .before in
     let l = f .before .loop in
-    let s = start f in
-    let m = s .args .mark in
-    let place = f .find .ensures .0 in
-    let judged = c .ending .ensures ∙ sym (judge-last m (l .rest .now) (l .st) (f .find .result) place (l .line) (omega arith)) ∙ l .inv .4 in
-    let none = points-last m (l .rest .now) (l .st) (f .find .result) place (omega arith) in
-    let all = sym (ap (sets (l .own) (numbers * l .st .points)) none) ∙ l .inv .5 in (
-      judged,
-      record {
-        held = λ st e.
-            let a = sym judged ∙ e in
-            let ss = split LF (s .args .text .now) in
-            all ∙ sets-written (points s) (s .args .own .now) (omega (arith, counted m 2 ss st a, few m 2 ss st a, s .pre .1));
-      },
+    let a = start f .args in (
+      ap (λ (j : Judged). came j (l .own)) (c .ending .ensures) ∙
+          end-came (a .mark) (a .room) (l .line) (l .rest .now) (l .st) (l .own) (omega (arith, l .inv .2, l .inv .3, start f .pre .1)) ∙
+          sym (walk-last (a .mark) (a .room) (l .line) (l .rest .now) (seenIn (l .st) (l .own)) (f .find .result) (f .find .ensures .0) (omega arith)) ∙
+          l .inv .4,
+      subst fewIn (sym (c .ending .ensures)) (end-few (a .room) (l .line) (l .rest .now) (l .st) (l .inv .2)),
     )
 
 slice-aggregate-read-line : tie.Need-slice-aggregate-read-line Inv-loop μ-loop
@@ -109,21 +96,15 @@ module _ (c : tie.After-read-line Inv-loop μ-loop) where
   within : e < length rest
   within = inside (c .before .before)
 
-  -- its numbers, and those of the lines after it
-  abbrev these : List ℤ
-  these = numbersOf (at .loop .st) l
-
-  abbrev others : List ℤ
-  others = pointsFrom m (split LF (onward rest (e + 1))) (afterOf (at .loop .st) l)
-
-  step : pointsFrom m (split LF rest) (at .loop .st) ≡ these ++ others
-  step = points-step m rest (at .loop .st) e (f .find .ensures .0) within l (c .read-line .ensures)
-
-  few-yet : afterOf (at .loop .st) l .points ≤ mostPoints
+  few-yet : stateAfter (at .loop .st) l .points ≤ mostPoints
   few-yet = line-few m (at .loop .st) (take e rest) l (c .read-line .ensures) (at .loop .inv .2)
 
-  next : numbers * at .loop .st .points + length these ≡ numbers * afterOf (at .loop .st) l .points
-  next = line-counted (at .loop .st) l
+  room-yet : numbers * at .loop .st .points ≤ length (at .loop .own)
+  room-yet = omega (arith, at .loop .inv .2, at .loop .inv .3, start f .pre .1)
+
+  -- as the definition judges it
+  judged : l ≡ lineOf m (seenIn (at .loop .st) (at .loop .own)) (take e rest)
+  judged = c .read-line .ensures ∙ seen-line m (at .loop .st) (at .loop .own) (take e rest) room-yet
 
 same-length-2 : tie.Need-same-length-2 Inv-loop μ-loop
 same-length-2 c = c .before .before .before .before .before .before .before .loop .inv .3
@@ -132,13 +113,13 @@ returns-2 : tie.Need-returns-2 Inv-loop μ-loop
 returns-2 c =
     let r = c .before .before .before in
     let i = at r .loop in
-    let refused = judge-refused (m r) (rest r) (i .st) (e r) (f r .find .ensures .0) (within r) (l r) (r .read-line .ensures) (i .line) _ (c .before .l .given .1) in
-    (sym refused ∙ i .inv .4, held-refused)
+    (sym (walk-refused (m r) _ (i .line) (rest r) (seenIn (i .st) (i .own)) (e r) (f r .find .ensures .0) (within r) (l r) (judged r) _ (c .before .l .given .1)) ∙ i .inv .4, tt)
 
 put-line-requires : tie.Need-put-line-requires Inv-loop μ-loop
 put-line-requires c κs =
     let r = c .before .before in
-    omega (arith, next r, few-yet r, at r .loop .inv .3, start (f r) .pre .1)
+    let i = at r .loop in
+    omega (arith, line-counted (i .st) (l r), few-yet r, i .inv .3, start (f r) .pre .1)
 
 after-requires : tie.Need-after-requires Inv-loop μ-loop
 after-requires c κs = at (c .before .before .before .before) .loop .inv .2
@@ -167,14 +148,13 @@ loop-again c =
     let p = a .before .before in
     let r = p .before .before .before in
     let i = at r .loop in
-    let q = judge-step (m r) (rest r) (i .st) (e r) (f r .find .ensures .0) (within r) (l r) (r .read-line .ensures) (i .line) ∙ goes-on _ (l r) _ (p .before .before .match .keys2) in (
+    let q = walk-step (m r) _ (i .line) (rest r) (seenIn (i .st) (i .own)) (e r) (f r .find .ensures .0) (within r) (l r) (judged r) ∙ goes-on _ (l r) _ (p .before .before .match .keys2) in
+    let n = seen-after (i .st) (i .own) (l r) (omega (arith, few-yet r, i .inv .3, start (f r) .pre .1)) in (
       omega (arith, i .inv .0),
       omega (arith, onward-less (rest r) (e r) (within r), i .inv .1),
       rw (a .after .ensures) (few-yet r),
       p .put-line .kept .0 ∙ i .inv .3,
-      rw (a .after .ensures) (sym q ∙ i .inv .4),
-      rw (a .after .ensures, p .put-line .ensures, ← next r)
-          (sym (sets-append (these r) (others r) (i .own) (numbers * i .st .points)) ∙ sym (ap (sets (i .own) (numbers * i .st .points)) (step r)) ∙ i .inv .5),
+      rw (a .after .ensures, p .put-line .ensures, n) (sym q ∙ i .inv .4),
     )
 
 pub read-lines-spec : {M : Type 1} → statement M

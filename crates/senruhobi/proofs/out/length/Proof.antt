@@ -2,9 +2,7 @@
 -- Assumes nothing.
 use borrow.Author.Needs.{needs}
 use mathlib.Core.Path.{sym, ap}
-use Rattle.globe.specs.declared.Length.{Length}
 use Rattle.globe.specs.Paper.{lengthPaper}
-use Rattle.senruhobi.specs.Doors.{lengthOut}
 use Rattle.senruhobi.proofs.out.length.Statement.{statement}
 use Rattle.senruhobi.proofs.out.length.Tie as tie
 
@@ -15,10 +13,10 @@ enum-known-l-2 : tie.Need-enum-known-l-2
 enum-known-l-2 c = search needs
 
 returns : tie.Need-returns
-returns c = sym (ap (λ (l : Length). lengthOut (lengthPaper l)) (c .before .l .given .1))
+returns c = sym (ap lengthPaper (c .before .l .given .1))
 
 returns-2 : tie.Need-returns-2
-returns-2 c = sym (ap (λ (l : Length). lengthOut (lengthPaper l)) (c .before .l2 .given .1))
+returns-2 c = sym (ap lengthPaper (c .before .l2 .given .1))
 
 pub length-spec : {M : Type 1} → statement M
 length-spec = tie.close (tie.spec enum-known-l enum-known-l-2 returns returns-2)

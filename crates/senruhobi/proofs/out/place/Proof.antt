@@ -4,9 +4,7 @@ use borrow.Author.Needs.{needs}
 use mathlib.Core.Path.{sym, ap}
 use mir.Syntax.{w64}
 use Rattle.signed.specs.Machine.{kept}
-use Rattle.globe.specs.declared.Place.{Place}
 use Rattle.globe.specs.Paper.{placePaper}
-use Rattle.senruhobi.specs.Doors.{placeOut}
 use Rattle.senruhobi.proofs.out.place.Statement.{statement}
 use Rattle.senruhobi.proofs.out.place.Tie as tie
 
@@ -17,10 +15,10 @@ enum-known-p-2 : tie.Need-enum-known-p-2
 enum-known-p-2 c = search needs
 
 returns : tie.Need-returns
-returns c = rw (kept w64 (c .before .p .given .0 .0) (c .known-told .given .0 .1), kept w64 (c .before .p .given .0 .1 .0) (c .known-told .given .1 .0 .1)) (sym (ap (λ (p : Place). placeOut (placePaper p)) (c .before .p .given .1)))
+returns c = rw (kept w64 (c .before .p .given .0 .0) (c .known-told .given .0 .1), kept w64 (c .before .p .given .0 .1 .0) (c .known-told .given .1 .0 .1)) (sym (ap placePaper (c .before .p .given .1)))
 
 returns-2 : tie.Need-returns-2
-returns-2 c = sym (ap (λ (p : Place). placeOut (placePaper p)) (c .before .p2 .given .1))
+returns-2 c = sym (ap placePaper (c .before .p2 .given .1))
 
 pub place-spec : {M : Type 1} → statement M
 place-spec = tie.close (tie.spec enum-known-p enum-known-p-2 returns returns-2)

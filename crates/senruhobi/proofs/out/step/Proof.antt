@@ -4,8 +4,7 @@ use borrow.Author.Needs.{needs}
 use mathlib.Core.Path.{sym, ap}
 use lib.Ieee.{odd, ofBits, ofFields}
 use Rattle.pen.specs.declared.Answer.{Answer}
-use Rattle.pen.specs.Paper.{penPaper}
-use Rattle.senruhobi.specs.Doors.{answerOut}
+use Rattle.pen.specs.Paper.{penPaper, answerPaper}
 use Rattle.senruhobi.proofs.out.step.Statement.{statement}
 use Rattle.senruhobi.proofs.out.step.Tie as tie
 
@@ -30,7 +29,7 @@ returns-2 : tie.Need-returns-2
 unfolding ofBits ofFields odd
 returns-2 c =
     let n = c .before .before .before in
-    sym (ap (λ (a : Answer). answerOut a (n .before .args .got) (penPaper (n .before .args .s .next))) (c .before .answer2 .given .1))
+    sym (ap (λ (a : Answer). answerPaper (n .before .args .got) (penPaper (n .before .args .s .next)) a) (c .before .answer2 .given .1))
 
 pub step-spec : {M : Type 1} → statement M
 step-spec =
