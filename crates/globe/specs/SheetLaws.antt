@@ -46,12 +46,6 @@ times-one z = same (z *ℤ pos 1) z (omega (arith, mul-above z 1, mul-below z 1)
 
 -- ---- what a place tells
 
-same-x : {a b c d : ℤ} → P.At a b ≡ P.At c d → a ≡ c
-same-x e = cc
-
-same-y : {a b c d : ℤ} → P.At a b ≡ P.At c d → b ≡ d
-same-y e = cc
-
 at-is : (x y : ℤ) (p : Place) → isAt x y p ≡ true → p ≡ P.At x y
 at-is x y (P.At a b) t =
     let p = and-true (eqZ a x) (eqZ b y) t in

@@ -94,3 +94,16 @@ same-bits w f g e = sym (toZ-ofZ f) ∙ ap (toZ w) e ∙ toZ-ofZ g
 pub bits-test : (z : ℤ) (n : ℕ) → mag z < 2 ^ hbits w32 → n < 2 ^ hbits w32 → eqb (ofZ w32 z) n ≡ eqZ z (pos n)
 bits-test (pos m) n f h = by-test (eqb m n) (λ e. e ∙ sym (eq-eqZ (pos m) (pos n) (ap pos (eqb-true m n e)))) (λ e. e ∙ sym (ne-eqZ (pos m) (pos n) (λ p. clash (eq-eqb m n (ap above p)) e)))
 bits-test (negsuc m) n f h = ne-eqb _ n (λ e. omega arith)
+
+-- ---- what a callee says of numbers that were stored and read back, it says of the numbers
+
+pub of-one : {A : Type 0} {w : Width} (f : ℤ → A) {a : ℤ} → SFits w a → f (toZ w (ofZ w a)) ≡ f a
+of-one f p = ap f (toZ-ofZ p)
+
+pub of-three : {A : Type 0} {u v w : Width} (f : ℤ → ℤ → ℤ → A) {a b c : ℤ} → SFits u a → SFits v b → SFits w c
+    → f (toZ u (ofZ u a)) (toZ v (ofZ v b)) (toZ w (ofZ w c)) ≡ f a b c
+of-three f p q r = rw (toZ-ofZ p, toZ-ofZ q, toZ-ofZ r)
+
+pub of-four : {A : Type 0} {t u v w : Width} (f : ℤ → ℤ → ℤ → ℤ → A) {a b c d : ℤ} → SFits t a → SFits u b → SFits v c → SFits w d
+    → f (toZ t (ofZ t a)) (toZ u (ofZ u b)) (toZ v (ofZ v c)) (toZ w (ofZ w d)) ≡ f a b c d
+of-four f p q r s = rw (toZ-ofZ p, toZ-ofZ q, toZ-ofZ r, toZ-ofZ s)

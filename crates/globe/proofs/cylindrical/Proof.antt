@@ -1,7 +1,9 @@
 -- `globe::cylindrical` meets its contract: the work does, with the table that it was lent.
 -- Assumes nothing.
 use borrow.Author.Needs.{needs}
-use mir.Facts.{toZ-ofZ}
+use mathlib.Core.Path.{_∙_}
+use Rattle.signed.specs.Machine.{of-three}
+use Rattle.globe.specs.Sheet.{cylindricalOf}
 use Rattle.globe.proofs.cylindrical.Statement.{statement}
 use Rattle.globe.proofs.cylindrical.Tie as tie
 
@@ -12,7 +14,7 @@ cylindrical-requires : tie.Need-cylindrical-requires
 cylindrical-requires c κs = search needs
 
 returns : tie.Need-returns
-returns c = let f = c .before .before .before .fits in rw (toZ-ofZ (f .latitude), toZ-ofZ (f .longitude), toZ-ofZ (f .meridian)) at (c .cylindrical .ensures)
+returns c = let f = c .before .before .before .fits in c .cylindrical .ensures ∙ of-three cylindricalOf (f .latitude) (f .longitude) (f .meridian)
 
 pub cylindrical-spec : {M : Type 1} → statement M
 cylindrical-spec = tie.close (tie.spec table-of-sines-requires cylindrical-requires returns)

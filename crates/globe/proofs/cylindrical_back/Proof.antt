@@ -1,7 +1,9 @@
 -- `globe::cylindrical_back` meets its contract: the work does, with the table that it was lent.
 -- Assumes nothing.
 use borrow.Author.Needs.{needs}
-use mir.Facts.{toZ-ofZ}
+use mathlib.Core.Path.{_∙_}
+use Rattle.signed.specs.Machine.{of-three}
+use Rattle.globe.specs.Sheet.{cylindricalBackOf}
 use Rattle.globe.proofs.cylindrical_back.Statement.{statement}
 use Rattle.globe.proofs.cylindrical_back.Tie as tie
 
@@ -12,7 +14,7 @@ cylindrical-back-requires : tie.Need-cylindrical-back-requires
 cylindrical-back-requires c κs = search needs
 
 returns : tie.Need-returns
-returns c = let f = c .before .before .before .fits in rw (toZ-ofZ (f .x), toZ-ofZ (f .y), toZ-ofZ (f .meridian)) at (c .cylindrical-back .ensures)
+returns c = let f = c .before .before .before .fits in c .cylindrical-back .ensures ∙ of-three cylindricalBackOf (f .x) (f .y) (f .meridian)
 
 pub cylindrical-back-spec : {M : Type 1} → statement M
 cylindrical-back-spec = tie.close (tie.spec table-of-sines-requires cylindrical-back-requires returns)

@@ -1,7 +1,8 @@
 -- `senruhobi::senruhobi_leg` meets its contract.
 -- Assumes nothing.
 use mathlib.Core.Path.{ap, _∙_}
-use mir.Facts.{toZ-ofZ}
+use Rattle.signed.specs.Machine.{of-four}
+use Rattle.globe.specs.Leg.{legOf}
 use Rattle.globe.specs.Paper.{lengthPaper}
 use Rattle.senruhobi.proofs.senruhobi_leg.Statement.{statement}
 use Rattle.senruhobi.proofs.senruhobi_leg.Tie as tie
@@ -15,7 +16,7 @@ length-requires c κs = tt
 returns : tie.Need-returns
 returns c =
     let f = c .before .before .fits in
-    c .length .ensures ∙ ap lengthPaper (rw (toZ-ofZ (f .latitude1), toZ-ofZ (f .longitude1), toZ-ofZ (f .latitude2), toZ-ofZ (f .longitude2)) at (c .before .leg .ensures))
+    c .length .ensures ∙ ap lengthPaper (c .before .leg .ensures ∙ of-four legOf (f .latitude1) (f .longitude1) (f .latitude2) (f .longitude2))
 
 pub senruhobi-leg-spec : {M : Type 1} → statement M
 senruhobi-leg-spec = tie.close (tie.spec leg-requires length-requires returns)

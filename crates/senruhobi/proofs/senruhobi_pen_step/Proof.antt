@@ -6,7 +6,10 @@ use Prim.Native.Nat.{ℕ, zero, suc}
 use native.Mathlib.Omega.{arith}
 use borrow.Author.Tests.{ne-eqb}
 use lib.Dec.{eqb}
-use mir.Facts.{toZ-ofZ}
+use Rattle.signed.specs.Machine.{of-four}
+use Rattle.pen.specs.declared.Pen.{Pen}
+use Rattle.pen.specs.declared.Window.{Window}
+use Rattle.pen.specs.Pen.{stepOf}
 use Rattle.pen.specs.Paper.{stepPaper, penOf}
 use Rattle.senruhobi.proofs.senruhobi_pen_step.Statement.{statement}
 use Rattle.senruhobi.proofs.senruhobi_pen_step.Tie as tie
@@ -24,11 +27,14 @@ pen-in (suc n) = rw (ne-eqb (suc n) 0 (λ e. omega arith))
 
 returns : tie.Need-returns
 returns c =
-    let s = c .before .before in
-    let f = s .fits in
+    let a = c .before .before .args in
+    let f = c .before .before .fits in
+    let w : Window = record { left = a .left; right = a .right; bottom = a .bottom; top = a .top } in
     c .step2 .ensures
-    ∙ ap (stepPaper (s .args .pen))
-    (rw (pen-in (s .args .pen), toZ-ofZ (f .meridian), toZ-ofZ (f .latitude), toZ-ofZ (f .longitude), toZ-ofZ (f .third)) at (c .before .step .ensures))
+    ∙ ap (stepPaper (a .pen))
+    (c .before .step .ensures
+    ∙ of-four (stepOf (record { down = not (eqb (a .pen) 0) }) w (a .divisor)) (f .meridian) (f .latitude) (f .longitude) (f .third)
+    ∙ ap (λ (p : Pen). stepOf p w (a .divisor) (a .meridian) (a .latitude) (a .longitude) (a .third)) (pen-in (a .pen)))
 
 pub senruhobi-pen-step-spec : {M : Type 1} → statement M
 senruhobi-pen-step-spec = tie.close (tie.spec step-requires step-requires-2 returns)

@@ -1,7 +1,8 @@
 -- `senruhobi::senruhobi_short_sine` meets its contract.
 -- Assumes nothing.
 use mathlib.Core.Path.{ap, _∙_}
-use mir.Facts.{toZ-ofZ}
+use Rattle.signed.specs.Machine.{of-one}
+use Rattle.globe.specs.Angle.{shortSineOf}
 use Rattle.globe.specs.Paper.{sinePaper}
 use Rattle.senruhobi.proofs.senruhobi_short_sine.Statement.{statement}
 use Rattle.senruhobi.proofs.senruhobi_short_sine.Tie as tie
@@ -15,7 +16,7 @@ sine-requires c κs = tt
 returns : tie.Need-returns
 returns c =
     let f = c .before .before .fits in
-    c .sine .ensures ∙ ap sinePaper (rw (toZ-ofZ (f .angle)) at (c .before .short-sine .ensures))
+    c .sine .ensures ∙ ap sinePaper (c .before .short-sine .ensures ∙ of-one shortSineOf (f .angle))
 
 pub senruhobi-short-sine-spec : {M : Type 1} → statement M
 senruhobi-short-sine-spec = tie.close (tie.spec short-sine-requires sine-requires returns)

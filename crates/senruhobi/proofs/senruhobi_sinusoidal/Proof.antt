@@ -1,7 +1,8 @@
 -- `senruhobi::senruhobi_sinusoidal` meets its contract.
 -- Assumes nothing.
 use mathlib.Core.Path.{ap, _∙_}
-use mir.Facts.{toZ-ofZ}
+use Rattle.signed.specs.Machine.{of-three}
+use Rattle.globe.specs.Sheet.{sinusoidalOf}
 use Rattle.globe.specs.Paper.{placePaper}
 use Rattle.senruhobi.proofs.senruhobi_sinusoidal.Statement.{statement}
 use Rattle.senruhobi.proofs.senruhobi_sinusoidal.Tie as tie
@@ -15,7 +16,7 @@ place-requires c κs = tt
 returns : tie.Need-returns
 returns c =
     let f = c .before .before .fits in
-    c .place .ensures ∙ ap placePaper (rw (toZ-ofZ (f .latitude), toZ-ofZ (f .longitude), toZ-ofZ (f .meridian)) at (c .before .sinusoidal .ensures))
+    c .place .ensures ∙ ap placePaper (c .before .sinusoidal .ensures ∙ of-three sinusoidalOf (f .latitude) (f .longitude) (f .meridian))
 
 pub senruhobi-sinusoidal-spec : {M : Type 1} → statement M
 senruhobi-sinusoidal-spec = tie.close (tie.spec sinusoidal-requires place-requires returns)
