@@ -1,5 +1,6 @@
 #!/usr/bin/env python3
-"""How far the document's length of a leg lies from the true great circle on its sphere, over random legs of several lengths.
+"""How far the document's length of a leg lies from the true great circle on its sphere, over random legs of several lengths: prints the
+table of docs/ACCURACY.md.
 
 The rule is the model's of tests/, to which the tests hold the compiled code. The truth is that of the same points, in whole ticks, worked
 out to more than 50 digits by the form with the arc tangent of two arguments, which loses nothing at any length.
@@ -81,7 +82,7 @@ def print_row(name, legs):
     truths = [true_length(*leg) for leg in legs]
     sizes = [abs(model.leg(*leg) - truth) for leg, truth in zip(legs, truths)]
     relative = max(size / truth for size, truth in zip(sizes, truths))
-    print(f'{name:>22} {len(legs):6} {max(sizes):12.1f} {sum(sizes) / len(sizes):12.1f} {relative:12.1e}')
+    print(f'| {name} | {max(sizes):,.1f} | {sum(sizes) / len(sizes):,.1f} | {relative:.1e} |')
 
 
 def about(metres):
@@ -89,8 +90,9 @@ def about(metres):
 
 
 random.seed(SEED)
-print(f'seed {SEED}; from one run')
-print(f'{"a leg of about":>22} {"legs":>6} {"largest, mm":>12} {"mean, mm":>12} {"relative":>12}')
+print(f'Seed {SEED}, {LEGS:,} legs a line:\n')
+print('| a leg of about | largest difference, mm | mean, mm | largest, relative |')
+print('|---|---|---|---|')
 for metres in METRES:
     name = f'{metres} m' if metres < 1000 else f'{metres // 1000:,} km'
     print_row(name, [some_leg(some_latitude(), about(metres)) for _ in range(LEGS)])

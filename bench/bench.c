@@ -15,7 +15,7 @@ enum { QUARTER = 900000000, HALF_TURN = 1800000000, DEGREE = 10000000 };
 enum { STRIDE = 5000 }; /* a step of a walk, in ticks: up to some 50 metres either way */
 enum { MONOTONIC = 1 }; /* clock_gettime's number for the clock that nobody sets */
 
-#define SECTION 1e6 /* the least nanoseconds between two looks at the clock */
+#define SECTION 1e6 /* the least nanoseconds between two looks at the clock, unless each is asked for once */
 #define EDGE 5e9 /* the pen's window, in millimetres either way: some points lie in it and some do not */
 #define DIVISOR 1000
 
@@ -44,6 +44,10 @@ typedef struct { char bytes[60001]; size_t length; } text;
 static text far_joined, far_parted, near_joined, near_parted, few_points, no_points;
 static int32_t senruhobi_buffer[NUMBERS], twin_buffer[NUMBERS];
 static double usual_buffer[NUMBERS];
+
+/* The points of the joined routes, in ticks and in degrees. */
+static int32_t near_points[NUMBERS], far_points[NUMBERS];
+static double near_degrees[NUMBERS], far_degrees[NUMBERS];
 
 /* A number from least to most, by splitmix64. */
 static int32_t between(int64_t least, int64_t most)
@@ -116,7 +120,16 @@ static void write_route(text *route, int32_t points[][2], int n, const char *par
     route->length = (size_t)(to - route->bytes);
 }
 
-static void make_texts(void)
+static void make_points(int32_t points[][2], int32_t *ticks, double *degrees)
+{
+    for (int i = 0; i < POINTS; i++, ticks += SENRUHOBI_NUMBERS, degrees += SENRUHOBI_NUMBERS) {
+        degrees[0] = in_degrees(ticks[0] = points[i][0]);
+        degrees[1] = in_degrees(ticks[1] = points[i][1]);
+        degrees[2] = ticks[2] = i == 0;
+    }
+}
+
+static void make_routes(void)
 {
     static int32_t far[POINTS][2], near[POINTS][2];
     int32_t latitude = 46 * DEGREE, longitude = 8 * DEGREE;
@@ -132,6 +145,8 @@ static void make_texts(void)
     write_route(&near_parted, near, POINTS, "g\n");
     write_route(&few_points, near, FEW_POINTS, "");
     write_route(&no_points, near, 0, "");
+    make_points(near, near_points, near_degrees);
+    make_points(far, far_points, far_degrees);
 }
 
 /* Rounds: a call for each input, or one reading. Each answers the sum of what it was answered, so that no call can be left out. */
@@ -216,6 +231,27 @@ READ(near_parted)
 READ(far_joined)
 READ(far_parted)
 
+#define MEASURE_EXACT(way, name, points, numbers)             \
+    static uint64_t way##_measure_##name(void)                \
+    {                                                         \
+        senruhobi_length a = way##_measure(points, numbers);  \
+        return a.refusal + a.millimetres;                     \
+    }
+
+#define MEASURE(name)                                                      \
+    MEASURE_EXACT(senruhobi, name, name##_points, NUMBERS)                 \
+    MEASURE_EXACT(twin, name, name##_points, NUMBERS)                      \
+    static uint64_t usual_measure_##name(void)                             \
+    {                                                                      \
+        usual_number a = usual_measure(name##_degrees, NUMBERS);           \
+        return (uint64_t)(a.refused + a.value);                            \
+    }
+
+MEASURE_EXACT(senruhobi, none, 0, 0)
+MEASURE_EXACT(twin, none, 0, 0)
+MEASURE(near)
+MEASURE(far)
+
 /* Jobs */
 
 /* Beside the three ways: a call that makes a table, if it makes one, and does nothing else; and a reading that only judges the lines. */
@@ -231,7 +267,7 @@ typedef struct {
     int differ;
 } job;
 
-/* A door that refuses its input, and a reader that finds no points, are idle. */
+/* A door that refuses its input, and one that reads or measures no points, are idle. */
 #define EACH(door)                                                                                                  \
     {                                                                                                               \
         .name = #door, .calls = CALLS,                                                                              \
@@ -246,9 +282,16 @@ typedef struct {
                   [JUDGING_DOOR] = senruhobi_##route##_judging, [JUDGING_TWIN] = twin_##route##_judging}               \
     }
 
+#define MEASURING(name_)                                                                                           \
+    {                                                                                                              \
+        .name = "measure, " #name_, .calls = 1,                                                                    \
+        .round = {[DOOR] = senruhobi_measure_##name_, [TWIN] = twin_measure_##name_, [USUALLY] = usual_measure_##name_, \
+                  [IDLE_DOOR] = senruhobi_measure_none, [IDLE_TWIN] = twin_measure_none}                           \
+    }
+
 enum {
     LONG_SINE, SHORT_SINE, CYLINDRICAL, SINUSOIDAL, CYLINDRICAL_BACK, SINUSOIDAL_BACK, LEG, PEN_STEP,
-    READ_FEW, NEAR_JOINED, NEAR_PARTED, FAR_JOINED, FAR_PARTED, JOBS
+    MEASURE_NEAR, MEASURE_FAR, READ_FEW, NEAR_JOINED, NEAR_PARTED, FAR_JOINED, FAR_PARTED, JOBS
 };
 
 static job jobs[JOBS] = {
@@ -260,6 +303,8 @@ static job jobs[JOBS] = {
     [SINUSOIDAL_BACK] = EACH(sinusoidal_back),
     [LEG] = EACH(leg),
     [PEN_STEP] = EACH(pen_step),
+    [MEASURE_NEAR] = MEASURING(near),
+    [MEASURE_FAR] = MEASURING(far),
     [READ_FEW] = READING("few points", few_points),
     [NEAR_JOINED] = READING("near, joined", near_joined),
     [NEAR_PARTED] = READING("near, parted", near_parted),
@@ -285,10 +330,10 @@ static double section(job *j, int way)
 }
 
 /* So many rounds that a section is long enough for the clock. */
-static void prepare(job *j)
+static void prepare(job *j, double least)
 {
     for (int way = 0; way < WAYS; way++)
-        for (j->rounds[way] = 1; j->round[way] && section(j, way) < SECTION;)
+        for (j->rounds[way] = 1; j->round[way] && section(j, way) < least;)
             j->rounds[way] *= 2;
 }
 
@@ -347,7 +392,7 @@ static void print_rows(void)
     print_leg("a leg inside it, far", &jobs[FAR_JOINED], &jobs[FAR_PARTED]);
     printf("\n"
            "door    the library's own function; twin: the same rules in plain C; usual: sin, asin, strtod, doubles\n"
-           "table   what a call pays to make the table of sines: an idle call (one refused, a route without points) less the twin's\n"
+           "table   what a call pays to make the table of sines: an idle call (one refused, or without points) less the twin's\n"
            "rest    door less table; no ratio below a twentieth of the table, where it is mostly noise\n"
            "few     %d points of a walk; near: %d of them; far: %d points from all round the globe\n"
            "joined  a leg into each point but the first; parted: `g` between all points, and no leg\n"
@@ -371,15 +416,18 @@ static int print_sums(void)
     return differ;
 }
 
-int main(void)
+/* With any argument each way is gone once, to see that all runs and agrees. */
+int main(int arguments, char **words)
 {
-    printf("seed %d; the best of %d repetitions\n\n", SEED, REPETITIONS);
+    (void)words;
+    int repetitions = arguments > 1 ? 1 : REPETITIONS;
+    printf("seed %d; the best of %d\n\n", SEED, repetitions);
     make_inputs();
-    make_texts();
+    make_routes();
     for (int i = 0; i < JOBS; i++)
-        prepare(&jobs[i]);
+        prepare(&jobs[i], arguments > 1 ? 0 : SECTION);
     /* turn by turn, so that a slow moment of the machine falls on all alike */
-    for (int r = 0; r < REPETITIONS; r++)
+    for (int r = 0; r < repetitions; r++)
         for (int i = 0; i < JOBS; i++)
             repeat(&jobs[i]);
     print_rows();

@@ -8,7 +8,8 @@ int memcmp(const void *, const void *, size_t);
 void *memcpy(void *restrict, const void *restrict, size_t);
 
 enum {
-    TEXT = 1, HEADER, LINE, NUMBER, MARK, LATITUDE, LONGITUDE, ORDER, POINTS, ROOM, PLACE, WINDOW, DIVISOR, MERIDIAN
+    TEXT = 1, HEADER, LINE, NUMBER, MARK, LATITUDE, LONGITUDE, ORDER, POINTS, ROOM, PLACE, WINDOW, DIVISOR, MERIDIAN,
+    BUFFER = 17
 };
 
 enum { ROWS = 4500, STEP = 200000, QUARTER = 900000000, HALF_TURN = 1800000000, SHORTENING = 10000, SHORT_UNIT = 1000000000 };
@@ -221,6 +222,42 @@ senruhobi_length twin_leg(int32_t latitude1, int32_t longitude1, int32_t latitud
     return (senruhobi_length){.millimetres = leg_length(latitude1, longitude1, latitude2, longitude2)};
 }
 
+/* Point buffer */
+
+static uint64_t measure(const int32_t *points, size_t n)
+{
+    uint64_t length = 0;
+    for (const int32_t *at = points + NUMBERS; at < points + NUMBERS * n; at += NUMBERS)
+        if (!at[2])
+            length += leg_length(at[-NUMBERS], at[1 - NUMBERS], at[0], at[1]);
+    return length;
+}
+
+static uint32_t buffer_refusal(const int32_t *points, size_t numbers)
+{
+    if (numbers % NUMBERS)
+        return BUFFER;
+    for (size_t i = 2; i < numbers; i += NUMBERS)
+        if (points[i] != 1 && (points[i] != 0 || i == 2))
+            return BUFFER;
+    if (numbers / NUMBERS > MOST_POINTS)
+        return POINTS;
+    for (size_t i = 0; i < numbers; i += NUMBERS) {
+        uint32_t refusal = point_refusal(points[i], points[i + 1]);
+        if (refusal)
+            return refusal;
+    }
+    return 0;
+}
+
+senruhobi_length twin_measure(const int32_t *points, size_t numbers)
+{
+    uint32_t refusal = buffer_refusal(points, numbers);
+    if (refusal)
+        return (senruhobi_length){.refusal = refusal};
+    return (senruhobi_length){.millimetres = numbers ? measure(points, numbers / NUMBERS) : 0};
+}
+
 /* Route text */
 
 typedef struct { const uint8_t *from, *end; } piece;
@@ -329,15 +366,6 @@ static uint32_t read_line(route *r, piece s)
 static senruhobi_reading refused(uint32_t refusal, uint32_t line)
 {
     return (senruhobi_reading){.refusal = refusal, .line = line};
-}
-
-static uint64_t measure(const int32_t *points, uint32_t n)
-{
-    uint64_t length = 0;
-    for (const int32_t *at = points + NUMBERS; at < points + NUMBERS * n; at += NUMBERS)
-        if (!at[2])
-            length += leg_length(at[-NUMBERS], at[1 - NUMBERS], at[0], at[1]);
-    return length;
 }
 
 /* The points go into a buffer of our own first: nothing is written to the lent one before the last line is judged. */

@@ -90,6 +90,20 @@ usual_number usual_leg(double latitude1, double longitude1, double latitude2, do
     return (usual_number){.value = leg_length(latitude1, longitude1, latitude2, longitude2)};
 }
 
+usual_number usual_measure(const double *points, size_t numbers)
+{
+    usual_number r = {0};
+    if (numbers % SENRUHOBI_NUMBERS)
+        return (usual_number){.refused = 1};
+    for (const double *at = points; at < points + numbers; at += SENRUHOBI_NUMBERS) {
+        if (!is_point(at[0], at[1]))
+            return (usual_number){.refused = 1};
+        if (at > points && at[2] == 0)
+            r.value += leg_length(at[-SENRUHOBI_NUMBERS], at[1 - SENRUHOBI_NUMBERS], at[0], at[1]);
+    }
+    return r;
+}
+
 /* The text ends in a zero byte. */
 usual_reading usual_read_route(const char *text, double *buffer, size_t numbers)
 {

@@ -15,6 +15,7 @@ usual_place usual_sinusoidal(double latitude, double longitude, double meridian)
 usual_point usual_cylindrical_back(double x, double y, double meridian);
 usual_point usual_sinusoidal_back(double x, double y, double meridian);
 usual_number usual_leg(double latitude1, double longitude1, double latitude2, double longitude2);
+usual_number usual_measure(const double *points, size_t numbers);
 usual_reading usual_read_route(const char *text, double *buffer, size_t numbers);
 usual_step usual_pen_step(int pen, double left, double right, double bottom, double top,
                           double divisor, double meridian, double latitude, double longitude, int third);

@@ -30,10 +30,10 @@ int main(void)
         senruhobi_step s = senruhobi_pen_step(pen, left, right, bottom, top, 1000000, 0, p[0], p[1], p[2]);
         if (s.refusal)
             printf("refused: %u\n", s.refusal);
-        else if (s.stroke == 0)
+        else if (s.stroke == SENRUHOBI_OUTSIDE)
             printf("outside\n");
         else
-            printf("%s %.6f %.6f\n", s.stroke == 1 ? "move" : "line", s.x, s.y);
+            printf("%s %.6f %.6f\n", s.stroke == SENRUHOBI_LINE ? "line" : "move", s.x, s.y);
         pen = s.pen;
     }
     return 0;

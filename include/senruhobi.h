@@ -1,9 +1,33 @@
-/* Senruhobi's doors for C: sines, map sheets, lengths, route texts and the pen of the route desk.
+/* Senruhobi's doors for C: sines, map sheets, lengths, route texts and the pen of the route desk. The library is for x86-64 Linux.
  *
- * Each door answers for all arguments; nobody has to check first. In `refusal` 0 means accepted, and any other number says why not
- * (the README has the table). Beside a refusal every other field is 0, but for a text's line and the pen, and no buffer is written to.
+ * Each door answers for all arguments; nobody has to check first. In `refusal` 0 means accepted, and any other number says why not: see
+ * `senruhobi_refusal`. Beside a refusal every other field is 0, but for a text's line and the pen, and no buffer is written to.
+ *
  * Angles are in ticks, ten-millionths of a degree: latitude from -900000000 to 900000000, longitude and central meridian from
- * -1800000000 up to but not including 1800000000.
+ * -1800000000 up to but not including 1800000000. Lengths are in millimetres.
+ *
+ *     // a quarter of the equator, measured as a leg, as a point buffer and as a text
+ *     #include <stdio.h>
+ *     #include <senruhobi.h>
+ *
+ *     int main(void)
+ *     {
+ *         static const char text[] = "route\tpoint\np\t0\t0\np\t0\t90\n";
+ *         int32_t points[SENRUHOBI_MOST_NUMBERS];
+ *         senruhobi_reading route = senruhobi_read_route((const uint8_t *)text, sizeof text - 1, points, SENRUHOBI_MOST_NUMBERS);
+ *         senruhobi_length whole = senruhobi_measure(points, SENRUHOBI_NUMBERS * route.points);
+ *         senruhobi_length leg = senruhobi_leg(0, 0, 0, 900000000);
+ *         printf("%lu %lu %lu\n", route.length, whole.millimetres, leg.millimetres);
+ *         if (senruhobi_leg(900000001, 0, 0, 0).refusal == SENRUHOBI_REFUSED_LATITUDE)
+ *             printf("no such latitude\n");
+ *         return 0;
+ *     }
+ *
+ * Threads: the library has no data that is written to and calls nothing but memcpy and memset, so every door may be called from any thread
+ * at any time, with buffers that no other thread writes to meanwhile.
+ * Stack: a call takes some 37 KB, a reading some 49 KB. Nothing is allocated.
+ * Pointers: a text may lie at any address, numbers lie as int32_t does, at a multiple of 4. A text and the buffer lent beside it must not
+ * overlap. With a count of 0 a pointer is not looked at and may be null; with any other it points to at least so many.
  */
 #ifndef SENRUHOBI_H
 #define SENRUHOBI_H
@@ -15,16 +39,42 @@
 extern "C" {
 #endif
 
-/* How many numbers a point has in a buffer: latitude, longitude, and 1 where the pen was up before it, else 0. The most points of a route, and
- * their numbers. */
-enum { SENRUHOBI_NUMBERS = 3, SENRUHOBI_MOST_POINTS = 1000, SENRUHOBI_MOST_NUMBERS = SENRUHOBI_NUMBERS * SENRUHOBI_MOST_POINTS };
+/* Why something is refused. */
+typedef enum {
+    SENRUHOBI_ACCEPTED = 0,
+    SENRUHOBI_REFUSED_TEXT = 1, /* text longer than 60,000 bytes (line 0) */
+    SENRUHOBI_REFUSED_HEADER = 2, /* line 1 missing, without LF, or other than the two headers */
+    SENRUHOBI_REFUSED_LINE = 3, /* another line has an unknown kind, the wrong number of fields, or no LF */
+    SENRUHOBI_REFUSED_NUMBER = 4, /* a number breaks its rule */
+    SENRUHOBI_REFUSED_MARK = 5, /* a number holds the mark that line 1 did not name */
+    SENRUHOBI_REFUSED_LATITUDE = 6, /* latitude, or the angle for a sine, is out of range (-90 to 90 degrees, both allowed) */
+    SENRUHOBI_REFUSED_LONGITUDE = 7, /* longitude out of range (-180 degrees up to but not including 180) */
+    SENRUHOBI_REFUSED_ORDER = 8, /* `t` or `g` in a wrong place; a last `g` names its own line */
+    SENRUHOBI_REFUSED_POINTS = 9, /* the 1,001st `p` line; more than 1,000 points in a buffer */
+    SENRUHOBI_REFUSED_ROOM = 10, /* the buffer that was lent is shorter than three numbers a point (line 0) */
+    SENRUHOBI_REFUSED_PLACE = 11, /* no accepted point has this place */
+    SENRUHOBI_REFUSED_WINDOW = 12, /* an edge of the window is NaN, left is not below right, or bottom is not below top */
+    SENRUHOBI_REFUSED_DIVISOR = 13, /* divisor outside 1 to 1,000,000 */
+    SENRUHOBI_REFUSED_MERIDIAN = 14, /* central meridian out of range */
+    SENRUHOBI_REFUSED_BUFFER = 17 /* a point buffer that is no multiple of three, a third number other than 0 or 1, or a first one of 0 */
+} senruhobi_refusal;
+
+enum {
+    SENRUHOBI_MOST_BYTES = 60000, /* of a route's text */
+    SENRUHOBI_NUMBERS = 3, /* of a point in a buffer: latitude, longitude, and 1 where the pen was up before it, else 0 */
+    SENRUHOBI_MOST_POINTS = 1000, /* of a route */
+    SENRUHOBI_MOST_NUMBERS = SENRUHOBI_NUMBERS * SENRUHOBI_MOST_POINTS /* room for every route */
+};
+
+/* What a step of the pen draws. */
+typedef enum { SENRUHOBI_OUTSIDE = 0, SENRUHOBI_MOVE = 1, SENRUHOBI_LINE = 2 } senruhobi_stroke;
 
 typedef struct { uint32_t refusal; int64_t value; } senruhobi_sine;
 typedef struct { uint32_t refusal; int64_t x, y; } senruhobi_place;
 typedef struct { uint32_t refusal; int32_t latitude, longitude; } senruhobi_point;
 typedef struct { uint32_t refusal; uint64_t millimetres; } senruhobi_length;
 typedef struct { uint32_t refusal, line, points, has_target; uint64_t length, target; } senruhobi_reading;
-typedef struct { uint32_t refusal, stroke /* 0 outside, 1 move, 2 line */; double x, y; uint32_t pen /* 0 up, 1 down */; } senruhobi_step;
+typedef struct { uint32_t refusal, stroke; double x, y; uint32_t pen /* 0 up, 1 down */; } senruhobi_step;
 
 /* 10^13 times the sine of an angle from -90 to 90 degrees, and 10^9 times it. Refusal: 6. */
 senruhobi_sine senruhobi_long_sine(int32_t angle);
@@ -41,9 +91,12 @@ senruhobi_point senruhobi_sinusoidal_back(int64_t x, int64_t y, int32_t meridian
 /* The length of a leg along the great circle, the shorter way round. Refusals: 6 and 7 of the first point, then of the second. */
 senruhobi_length senruhobi_leg(int32_t latitude1, int32_t longitude1, int32_t latitude2, int32_t longitude2);
 
+/* The length of a point buffer, the sum of its legs; the leg into a point whose third number is 1 is not counted. `numbers` is the whole
+ * buffer's, SENRUHOBI_NUMBERS a point. Refusals: 17, 9, then 6 and 7 point by point. */
+senruhobi_length senruhobi_measure(const int32_t *points, size_t numbers);
+
 /* Reads a route's text. Of an accepted one the buffer begins with the numbers of its points, the third 1 for the first point and after
- * `g`, else 0; its other numbers stay as they were. Refusals: 1 to 10, with the line. Text and buffer must not overlap; with a
- * count of 0 a pointer is not looked at. */
+ * `g`, else 0; its other numbers stay as they were. Refusals: 1 to 10, with the line. */
 senruhobi_reading senruhobi_read_route(const uint8_t *text, size_t bytes, int32_t *buffer, size_t numbers);
 
 /* What a pen (0 up, any other number down) draws at a point on the sinusoidal sheet. The window's edges are in millimetres on the sheet

@@ -3,9 +3,19 @@ has one. Programs are for x86-64; the kit for Arm has the emulator, so the same 
 import functools
 import os
 import pathlib
+import shutil
 import subprocess
+import unittest
 
 ROOT = pathlib.Path(__file__).resolve().parent.parent
+NEEDS, NEEDS_X86_64 = 'needs {}, which is not on the PATH', 'needs an x86-64 machine'
+
+# For tests, or classes of them, that cannot run everywhere. tests/run takes no other reasons for a skip.
+on_x86_64 = unittest.skipUnless(os.uname().machine == 'x86_64', NEEDS_X86_64)
+
+
+def needs(tool):
+    return unittest.skipUnless(shutil.which(tool), NEEDS.format(tool))
 
 
 @functools.lru_cache(maxsize=None)

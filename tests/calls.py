@@ -5,8 +5,9 @@ import math
 
 import model
 import texts
-from figures import DOWN, GREATEST, GREATEST_64, HERE, INF, LEAST, LEAST_64, PENS, X, Y, above, below, step
-from model import HALF_TURN, QUARTER, STEP
+from figures import (DOWN, GREATEST, GREATEST_64, HERE, INF, LATITUDE, LEAST, LEAST_64, LONGITUDE, NO_LATITUDES, NO_LONGITUDES, NO_THIRDS,
+                     PENS, THIRD, X, Y, above, below, changed, route, step)
+from model import HALF_TURN, NUMBERS, QUARTER, STEP
 
 LATITUDES = [LEAST, -QUARTER - 1, -QUARTER, -QUARTER + 1, -600_000_000, -1, 0, 1, STEP, QUARTER - 1, QUARTER, QUARTER + 1, GREATEST]
 LONGITUDES = [LEAST, -HALF_TURN - 1, -HALF_TURN, -HALF_TURN + 1, -1, 0, 1, HALF_TURN - 1, HALF_TURN, HALF_TURN + 1, GREATEST]
@@ -14,7 +15,7 @@ ENDS_64 = [LEAST_64, LEAST_64 + 1, -2**32, 2**31, 2**32, GREATEST_64]
 THIRDS = [0, 1, 2, -1, LEAST, GREATEST]
 DIVISORS = [1, 2, 3, 7, 1_000, 999_999, 1_000_000]
 BAD_DIVISORS = [0, 1_000_001, 2**31, 2**32 - 1]
-TOO_MUCH_ROOM = model.MOST_NUMBERS + model.NUMBERS
+TOO_MUCH_ROOM = model.MOST_NUMBERS + NUMBERS
 
 
 # At the limits
@@ -67,9 +68,27 @@ def steps():
         yield from (step(DOWN, window, point=point) for window in itertools.product(across, across, up, up))
 
 
+def row(k):
+    """The ways back to the first and the last tick of a row of the table: from their places, north and south, and those beside them; and from legs
+    of twice as many ticks, or of those beside them, along a meridian and along the equator."""
+    first, last = k * STEP, (k + 1) * STEP - 1
+    for latitude in (first, last, -first, -last):
+        yield from (('cylindrical_back', -2 * latitude, model.long_sine(latitude) + off, 0) for off in (-1, 0, 1))
+    for half in (first, first + 1, last - 1, last):
+        yield 'leg', -half, 0, half, 0
+        yield 'leg', 0, -half, 0, half
+
+
+def every_byte():
+    """Every value of a byte at every place of a text, between two bytes and instead of one: so at both ends and inside each field and line."""
+    for text in (route('point', 't 1.5', 'p -2.5 34', 'g', 'p 4 5'), route('comma', 't 1,5', 'p -2,5 34', 'g', 'p 4 5')):
+        for at, over, value in itertools.product(range(len(text) + 1), (0, 1), range(256)):
+            yield 'read_route', room_for(2), text[:at] + bytes([value]) + text[at + over:]
+
+
 def room_for(points):
     """The numbers of so many points, or of one more than a route may have."""
-    return min(model.NUMBERS * points, TOO_MUCH_ROOM)
+    return min(NUMBERS * points, TOO_MUCH_ROOM)
 
 
 def files(folder):
@@ -193,6 +212,51 @@ def random_calls(some, count):
     """So many calls of the doors that take numbers, which take turns."""
     turns = itertools.cycle([random_sine, random_place, random_back, random_leg, random_step])
     return [call(some) for call in itertools.islice(turns, count)]
+
+
+def good_buffer(some, count):
+    """The numbers of so many points: each near the one before it or anywhere, the pen up before the first and before some others."""
+    latitude, longitude = accepted_point(some)
+    numbers = []
+    for k in range(count):
+        near = latitude + small(some), longitude + small(some)
+        latitude, longitude = accepted_point(some) if model.bad_point(*near) or some.random() < 0.5 else near
+        numbers += latitude, longitude, int(k == 0 or some.random() < 0.3)
+    return tuple(numbers)
+
+
+# Each change spoils a point buffer in its own way; one without points stays as it is.
+
+def another(values):
+    """Puts other numbers into the first point, the last one or any: for each part of it that is named, one of the values."""
+    def change(some, numbers):
+        last = max(0, len(numbers) // NUMBERS - 1)
+        at = some.choice([0, last, some.randint(0, last)])
+        return changed(numbers, *((at, part, some.choice(values[part])) for part in values)) if len(numbers) >= NUMBERS else numbers
+    return change
+
+
+def another_count(some, numbers):
+    return some.choice([(*numbers, 0), (*numbers, 0, 0), numbers[:-1], numbers[:-2], numbers[1:]])
+
+
+def many_points(some, numbers):
+    """As many points as are allowed, or some more."""
+    more = some.choice([model.MOST_NUMBERS, TOO_MUCH_ROOM, TOO_MUCH_ROOM + NUMBERS]) - len(numbers)
+    return numbers + good_buffer(some, more // NUMBERS)
+
+
+BUFFER_CHANGES = [lambda some, numbers: numbers, another_count, another({THIRD: NO_THIRDS}), another({THIRD: [0, 1]}), many_points,
+                  another({LATITUDE: NO_LATITUDES}), another({LONGITUDE: NO_LONGITUDES}),
+                  another({LATITUDE: NO_LATITUDES, LONGITUDE: NO_LONGITUDES})]
+
+
+def random_measures(some, count):
+    """So many point buffers. The changes take turns, so that each refusal comes up."""
+    turns = itertools.cycle(BUFFER_CHANGES)
+    for change in itertools.islice(turns, count):
+        numbers = change(some, good_buffer(some, some.choice([0, 1, 2, 3, 5, 8])))
+        yield 'measure', numbers if some.random() < 0.5 else some.choice(BUFFER_CHANGES)(some, numbers)
 
 
 def random_readings(some, count):

@@ -77,7 +77,7 @@ def main():
             print(f'{len(text)}\t{crate} {module}.{name}')
     for crate, size in sizes.items():
         print(f'{size}\t{crate}')
-    print(f'{sizes.total()}\tcharacters in {len(seen)} definitions')
+    print(f'{sum(sizes.values())}\tcharacters in {len(seen)} definitions')
 
 
 if __name__ == '__main__':

@@ -2,37 +2,89 @@
    of the answer, in the order of the struct. Whole numbers are decimal, a float is the 16 hex digits of its bits.
 
    "read_route ROOM :TEXT" lends a buffer of ROOM numbers; TEXT is in hex digits. Behind the fields of the answer stand 1, or 0 where
-   anything but the buffer was changed, and then all the numbers of the buffer. A text of no bytes and a buffer of no numbers are NULL.
+   anything but the buffer was changed, and then all the numbers of the buffer. "measure COUNT NUMBER .." lends COUNT numbers; behind the
+   fields stands 1, or 0 where a number was changed, of these or around them. A text of no bytes and a buffer of no numbers are NULL.
+
+   Before these two may stand "at PLACE": where in their memory text and buffer lie, counted in bytes and in numbers. At 0 the first byte or
+   number is the first of the memory, at 1 the second; at -1 the last one is the last of the memory, at -2 the last but one. What lies before
+   and behind the memory may not be read. A text or a buffer of none is then not NULL: it points to its place.
+
+   Or "far COUNT": the buffer is said to have COUNT numbers, and what is more than its memory holds may not be read. "far_text COUNT" reads
+   a text of COUNT bytes, none of which may be read, into no buffer.
+
+   A door that reads or writes where it may not ends the driver, and so does memory that cannot be had; the driver then says so.
 
    The kit has a C library and no headers, so what is called of it is declared here. */
 #include <senruhobi.h>
 
 int scanf(const char *, ...);
 int printf(const char *, ...);
+int dprintf(int, const char *, ...);
 int strcmp(const char *, const char *);
-void *malloc(size_t);
+size_t strlen(const char *);
 void free(void *);
+void *mmap(void *, size_t, int, int, int, long);
+int mprotect(void *, size_t, int);
+void (*signal(int, void (*)(int)))(int);
+void exit(int);
+void _exit(int);
 
-/* The buffer that is lent lies inside a longer array, and the rest of that has to stay as it is. */
-enum { MOST_ROOM = 4096, GUARD = 4096 };
-static int32_t numbers[GUARD + MOST_ROOM + GUARD];
-static int32_t *const lent = numbers + GUARD;
+/* The numbers that these have on Linux for x86-64. */
+enum { PROT_NONE = 0, PROT_READ = 1, PROT_WRITE = 2, MAP_PRIVATE = 0x2, MAP_ANONYMOUS = 0x20, MAP_NORESERVE = 0x4000, SIGSEGV = 11 };
 
-/* What stands at each place before a call: out of range, so that no reader writes it, and nowhere the same. */
-static int32_t filling(int place) { return -2000000000 - place; }
+/* What is protected at a time: a page or several, as pages have 4, 16 or 64 KiB. */
+enum { BLOCK = 65536 };
+/* The memory for a text, in bytes, and for a buffer, in numbers; and where they lie in it unless something else is said. */
+enum { TEXTS = 4 * BLOCK, NUMBERS = BLOCK / sizeof(int32_t), MIDDLE = 4096 };
+static uint8_t *texts;
+static int32_t *numbers;
+static int32_t *lent; /* the buffer, inside that memory, of which the rest has to stay as it is */
 
-static void fill(void)
+/* Memory with a block before it and so many bytes behind it that may not be read. */
+static void *memory(size_t bytes, size_t behind)
 {
-    for (int k = -GUARD; k < MOST_ROOM + GUARD; k++)
-        lent[k] = filling(k);
+    const size_t all = 2 * BLOCK + bytes + behind;
+    uint8_t *begin = mmap(0, all, PROT_NONE, MAP_PRIVATE | MAP_ANONYMOUS | MAP_NORESERVE, -1, 0);
+    uint8_t *found = begin + 2 * BLOCK - (size_t)begin % BLOCK; /* a multiple of BLOCK, so that it ends where pages end */
+    if (begin == (void *)-1 || mprotect(found, bytes, PROT_READ | PROT_WRITE)) {
+        dprintf(2, "no address space of %lu bytes\n", all);
+        exit(1);
+    }
+    return found;
 }
 
-static int guarded(int room)
+/* Where something begins that has so many units and is at a place in memory of so many. */
+static size_t begin_of(size_t units, long place, size_t most)
 {
-    for (int k = -GUARD; k < MOST_ROOM + GUARD; k++)
-        if ((k < 0 || k >= room) && lent[k] != filling(k))
-            return 0;
-    return 1;
+    const size_t begin = place < 0 ? most - units + place + 1 : (size_t)place;
+    if (units > most || begin > most - units) {
+        dprintf(2, "no room for %lu at %ld\n", units, place);
+        exit(1);
+    }
+    return begin;
+}
+
+/* The pointer that a door gets to it. */
+static void *pointer(void *begin, size_t units, long place) { return units || place != MIDDLE ? begin : 0; }
+
+/* What stands at each place before a call: out of range, so that no reader writes it, and nowhere the same. */
+static int32_t filling(long place) { return -2000000000 - place; }
+
+static void fill(size_t room, long place)
+{
+    lent = numbers + begin_of(room, place, NUMBERS);
+    for (int32_t *n = numbers; n < numbers + NUMBERS; n++)
+        *n = filling(n - lent);
+}
+
+static int guarded(size_t room)
+{
+    int kept = 1;
+    for (int32_t *n = numbers; n < lent; n++)
+        kept &= *n == filling(n - lent);
+    for (int32_t *n = lent + room; n < numbers + NUMBERS; n++)
+        kept &= *n == filling(n - lent);
+    return kept;
 }
 
 static unsigned digit(char c) { return c <= '9' ? c - '0' : c - 'a' + 10; }
@@ -46,40 +98,63 @@ static int same(const uint8_t *text, const char *hex, size_t bytes)
     return 1;
 }
 
-static void read_route(int room, const char *hex)
-{
-    size_t bytes = 0;
-    while (hex[2 * bytes])
-        bytes++;
-    uint8_t *text = malloc(bytes + 1);
-    for (size_t k = 0; k < bytes; k++)
-        text[k] = byte_at(hex, k);
-    text[bytes] = '\n'; /* a reader that goes on behind the text would take its last line for ended */
-    fill();
-    senruhobi_reading r = senruhobi_read_route(bytes ? text : 0, bytes, room ? lent : 0, room);
-    printf("%u %u %u %u %lu %lu", r.refusal, r.line, r.points, r.has_target, r.length, r.target);
-    printf(" %d", guarded(room) && same(text, hex, bytes));
-    for (int k = 0; k < room; k++)
-        printf(" %d", lent[k]);
-    printf("\n");
-    free(text);
-}
-
 union number { uint64_t bits; double value; };
 
 static void say_step(senruhobi_step r)
 {
     union number x = { .value = r.x }, y = { .value = r.y };
-    printf("%u %u %016lx %016lx %u\n", r.refusal, r.stroke, x.bits, y.bits, r.pen);
+    printf("%u %u %016lx %016lx %u", r.refusal, r.stroke, x.bits, y.bits, r.pen);
 }
 
-static void say_sine(senruhobi_sine r) { printf("%u %ld\n", r.refusal, r.value); }
-static void say_place(senruhobi_place r) { printf("%u %ld %ld\n", r.refusal, r.x, r.y); }
-static void say_point(senruhobi_point r) { printf("%u %d %d\n", r.refusal, r.latitude, r.longitude); }
-static void say_length(senruhobi_length r) { printf("%u %lu\n", r.refusal, r.millimetres); }
+static void say_sine(senruhobi_sine r) { printf("%u %ld", r.refusal, r.value); }
+static void say_place(senruhobi_place r) { printf("%u %ld %ld", r.refusal, r.x, r.y); }
+static void say_point(senruhobi_point r) { printf("%u %d %d", r.refusal, r.latitude, r.longitude); }
+static void say_length(senruhobi_length r) { printf("%u %lu", r.refusal, r.millimetres); }
+static void say_reading(senruhobi_reading r) { printf("%u %u %u %u %lu %lu", r.refusal, r.line, r.points, r.has_target, r.length, r.target); }
+
+/* The count of a buffer is its room unless it is said to be far. */
+
+static void read_route(size_t room, size_t count, long place, const char *hex)
+{
+    const size_t bytes = strlen(hex) / 2;
+    uint8_t *text = texts + begin_of(bytes, place, TEXTS);
+    for (size_t k = 0; k < bytes; k++)
+        text[k] = byte_at(hex, k);
+    if (text + bytes < texts + TEXTS)
+        text[bytes] = '\n'; /* a reader that goes on behind the text would take its last line for ended */
+    fill(room, place);
+    say_reading(senruhobi_read_route(pointer(text, bytes, place), bytes, pointer(lent, room, place), count));
+    printf(" %d", guarded(room) && same(text, hex, bytes));
+    for (size_t k = 0; k < room; k++)
+        printf(" %d", lent[k]);
+}
+
+static void measure(size_t room, size_t count, long place)
+{
+    static int32_t given[NUMBERS];
+    fill(room, place);
+    for (size_t k = 0; k < room; k++) {
+        if (scanf("%d", given + k) != 1)
+            exit(1);
+        lent[k] = given[k];
+    }
+    say_length(senruhobi_measure(pointer(lent, room, place), count));
+    int kept = guarded(room);
+    for (size_t k = 0; k < room; k++)
+        kept &= lent[k] == given[k];
+    printf(" %d", kept);
+}
 
 static char door[32];
+static int line;
 static int is(const char *name) { return !strcmp(door, name); }
+
+static void trespassed(int number)
+{
+    (void)number;
+    dprintf(2, "%s in line %d read or wrote where it may not\n", door, line);
+    _exit(1);
+}
 
 int main(void)
 {
@@ -88,7 +163,23 @@ int main(void)
     uint32_t pen, divisor;
     union number left, right, bottom, top;
     char *text;
-    while (scanf("%31s", door) == 1) {
+    signal(SIGSEGV, trespassed);
+    texts = memory(TEXTS, BLOCK);
+    int32_t *const near = memory(BLOCK, BLOCK), *far = 0;
+    for (line = 1; scanf("%31s", door) == 1; line++) {
+        long place = MIDDLE;
+        size_t room, count = 0;
+        if (is("at") && scanf("%ld%31s", &place, door) != 2)
+            return 1;
+        numbers = near;
+        if (is("far") || is("far_text")) {
+            /* 2^32 numbers and as many as fit into a block */
+            if (!far)
+                far = memory(BLOCK, ((size_t)1 << 34) + BLOCK);
+            numbers = far;
+        }
+        if (is("far") && scanf("%lu%31s", &count, door) != 2)
+            return 1;
         if (is("long_sine") && scanf("%d", &a) == 1)
             say_sine(senruhobi_long_sine(a));
         else if (is("short_sine") && scanf("%d", &a) == 1)
@@ -106,11 +197,16 @@ int main(void)
         else if (is("pen_step") && scanf("%u%lx%lx%lx%lx%u%d%d%d%d", &pen, &left.bits, &right.bits, &bottom.bits, &top.bits, &divisor,
                                          &a, &b, &c, &d) == 10)
             say_step(senruhobi_pen_step(pen, left.value, right.value, bottom.value, top.value, divisor, a, b, c, d));
-        else if (is("read_route") && scanf("%d%ms", &a, &text) == 2 && a >= 0 && a <= MOST_ROOM) {
-            read_route(a, text + 1);
+        else if (is("measure") && scanf("%lu", &room) == 1)
+            measure(room, count ? count : room, place);
+        else if (is("read_route") && scanf("%lu%ms", &room, &text) == 2) {
+            read_route(room, count ? count : room, place, text + 1);
             free(text);
-        } else
+        } else if (is("far_text") && scanf("%lu", &count) == 1)
+            say_reading(senruhobi_read_route((uint8_t *)(far + NUMBERS), count, 0, 0));
+        else
             return 1;
+        printf("\n");
     }
     return 0;
 }

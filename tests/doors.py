@@ -14,8 +14,9 @@ HEADERS = ['-nostdinc', '-I', built.ROOT / 'include', '-I', TESTS / 'include']
 
 
 def compiled(source, room):
+    """The object of a C source; optimised, as the driver looks over its memory at every call."""
     made = room / source.with_suffix('.o').name
-    compiler = [built.tools() / 'bin/clang', '--target=x86_64-unknown-linux-gnu', '-fPIE', '-Wall', '-Wextra', '-Werror']
+    compiler = [built.tools() / 'bin/clang', '--target=x86_64-unknown-linux-gnu', '-fPIE', '-O2', '-Wall', '-Wextra', '-Werror']
     subprocess.run([*compiler, *HEADERS, '-c', source, '-o', made], check=True)
     return made
 
@@ -40,6 +41,8 @@ def written(value):
     """A name or a value, as the driver reads and writes it. A float's bits tell apart what == does not: 0.0 and -0.0."""
     if isinstance(value, float):
         return struct.pack('>d', value).hex()
+    if isinstance(value, tuple):  # the numbers of a buffer
+        return line_of((len(value), *value))
     return ':' + value.hex() if isinstance(value, bytes) else str(value)
 
 

@@ -2,6 +2,7 @@
 import itertools
 import math
 import struct
+import sys
 
 import doors
 from model import MOST_NUMBERS, NUMBERS
@@ -9,10 +10,11 @@ from model import MOST_NUMBERS, NUMBERS
 LEAST, GREATEST = -2**31, 2**31 - 1
 LEAST_64, GREATEST_64 = -2**63, 2**63 - 1
 INF = math.inf
-LARGEST = math.nextafter(INF, 0.0)
+LARGEST = sys.float_info.max
 NANS = [math.nan, -math.nan, *struct.unpack('>d', bytes.fromhex('7ff0000000000001'))]  # the last one signals
 UP, DOWN = 0, 1
-PENS = [UP, DOWN, 2, 2**32 - 1]
+# every number but 0 is down, whatever its low 8, 16 or 31 bits are
+PENS = [UP, DOWN, 2, 255, 256, 257, 2**15, 2**16, 2**16 + 1, 2**31 - 1, 2**31, 2**32 - 256, 2**32 - 1]
 
 SINES = {
     # "entry 0 is 0, entry 1 is 3,490,658,433, entry 1500 is 5×10^12, entry 4500 is 10^13"
@@ -104,17 +106,19 @@ def refused(number, pen):
     return number, 0, 0.0, 0.0, pen
 
 
-def below(number):
-    return math.nextafter(number, -INF)
-
-
 def above(number):
-    return math.nextafter(number, INF)
+    """The next double, by its bits; Python has a function for this since 3.9 only."""
+    bits, = struct.unpack('>q', struct.pack('>d', number + 0.0))  # -0.0 + 0.0 is 0.0
+    return struct.unpack('>d', struct.pack('>q', bits + 1 if bits >= 0 else bits - 1))[0]
+
+
+def below(number):
+    return -above(-number)
 
 
 # pairs, as keys with 0.0 and -0.0 would be one key
 STEPS = [
-    (step(), move()), (step(DOWN), line()), (step(2), line()), (step(2**32 - 1), line()),
+    (step(), move()), *((step(pen), line()) for pen in PENS if pen != UP),
     # "any other third number counts as 1"
     *((step(pen, third=third), move()) for pen in PENS for third in (1, 2, -1, LEAST, GREATEST)),
     # X drops twice: one division would give 5. There is no minus zero.
@@ -215,6 +219,19 @@ REFUSED_TEXTS = [
     # "the first bad line from the top"
     (route('point', 'p 0 180', 'z'), 7, 2), (route('point', 'p 0 180', 'g'), 7, 2), (route('point', 'p 0 0', 'p 91 0', 'p 0 180'), 6, 3),
 ]
+
+
+def other_marks():
+    """The other mark at every place of a number, between two bytes and instead of one: "5: a number holds the mark that the header did not
+    name", which comes before whatever else is wrong with it."""
+    for mark, named, other in (('point', '.', ','), ('comma', ',', '.')):
+        for above_it, words, numbers in (((), 't {}', ['123M456', '0', '42']), ((), 'p {} x', ['-12M3456789', '7', '-0', '91']),
+                                         (('t 1', 'p 0 0', 'g'), 'p 0 {}', ['-123M4567890', '7', '-0', '180'])):
+            for number in (number.replace('M', named) for number in numbers):
+                for at, over in itertools.product(range(len(number) + 1), (0, 1)):
+                    yield route(mark, *above_it, words.format(number[:at] + other + number[at + over:])), 5, len(above_it) + 2
+
+
 # each text; the points, whether there is a target, the length and the target; and the numbers written
 ACCEPTED_TEXTS = [
     (route('point'), (0, 0, 0, 0), []),
@@ -227,14 +244,17 @@ ACCEPTED_TEXTS = [
     (route('comma', *500 * ['p 90 0', 'p -90 0']), (1000, 0, 999 * 20_015_086_860, 0),
      [900_000_000, 0, 1, -900_000_000, 0, 0, *499 * [900_000_000, 0, 0, -900_000_000, 0, 0]]),
 ]
+# "target in kilometres"; "one to three digits, then nothing"; "Leading zeros .. are allowed."
+TARGETS = [(route(mark, f't {number}'), (0, 1, 0, 1_000_000 * kilometres), []) for mark in ('point', 'comma') for kilometres in range(1000)
+           for number in sorted({f'{kilometres}', f'{kilometres:03}'})]
 
 
 def readings():
     """The texts, each into rooms of several sizes. Behind the fields stand 1, as nothing but the buffer changes, and the buffer."""
-    for text, number, at in REFUSED_TEXTS:
+    for text, number, at in (*REFUSED_TEXTS, *other_marks()):
         for room in (0, 2 * NUMBERS - 1, MOST_NUMBERS + NUMBERS):
             yield ('read_route', room, text), (number, at, 0, 0, 0, 0, 1, *doors.lent(room))
-    for text, fields, numbers in ACCEPTED_TEXTS:
+    for text, fields, numbers in (*ACCEPTED_TEXTS, *TARGETS):
         need = len(numbers)
         for room in (need, need + NUMBERS + 1):
             yield ('read_route', room, text), (0, 0, *fields, 1, *numbers, *doors.lent(room)[need:])
@@ -243,4 +263,55 @@ def readings():
             yield ('read_route', room, text), (10, 0, 0, 0, 0, 0, 1, *doors.lent(room))
 
 
-FIGURES = [*SINES.items(), *SHEETS.items(), *BACK.items(), *BOTH_WAYS.items(), *STEPS, *orders(), *readings()]
+LATITUDE, LONGITUDE, THIRD = range(NUMBERS)
+THERE_AND_BACK = (0, 0, 1, 0, 900_000_000, 0, 0, 0, 0)
+TO_AND_FRO = (900_000_000, 0, 1, *500 * (-900_000_000, 0, 0, 900_000_000, 0, 0))  # 1,001 points, from pole to pole
+NO_LATITUDES, NO_LONGITUDES = [900_000_001, -900_000_001, LEAST, GREATEST], [1_800_000_000, -1_800_000_001, LEAST, GREATEST]
+NO_THIRDS = [2, -1, 256, 257, 2**16, LEAST, LEAST + 1, GREATEST]  # of some the low bits are those of 0 or 1
+
+
+def changed(numbers, *changes):
+    """A point buffer with other numbers. A change is the point, which of its numbers, and what that is now."""
+    numbers = list(numbers)
+    for point, part, value in changes:
+        numbers[NUMBERS * point + part] = value
+    return tuple(numbers)
+
+
+def buffers():
+    """Point buffers, each with its refusal and its length."""
+    yield from (((), 0, 0), ((0, 0, 1), 0, 0), ((900_000_000, -1_800_000_000, 1), 0, 0))
+    # what was read has the length that the reader gave
+    yield from ((tuple(numbers), 0, length) for _, (_, _, length, _), numbers in ACCEPTED_TEXTS)
+    # "the leg into the next point not counted"
+    for leg, length in LEGS.items():
+        yield from (((*leg[:2], 1, *leg[2:], 0), 0, length), ((*leg[:2], 1, *leg[2:], 1), 0, 0))
+    for thirds, legs in (((0, 0), 2), ((0, 1), 1), ((1, 0), 1), ((1, 1), 0)):
+        yield changed(THERE_AND_BACK, (1, THIRD, thirds[0]), (2, THIRD, thirds[1])), 0, legs * 10_007_543_430
+    # "17 buffer not a multiple of three, a third number other than 0 or 1, or a first one of 0"
+    yield from ((THERE_AND_BACK[:count], 17, 0) for count in (1, 2, 4, 5, 7, 8))
+    yield changed(THERE_AND_BACK, (0, THIRD, 0)), 17, 0
+    yield from ((changed(THERE_AND_BACK, (point, THIRD, third)), 17, 0) for point in range(3) for third in NO_THIRDS)
+    # "6 and 7 by point"
+    for point, (latitude, longitude) in itertools.product(range(3), zip(NO_LATITUDES, NO_LONGITUDES)):
+        yield changed(THERE_AND_BACK, (point, LATITUDE, latitude)), 6, 0
+        yield changed(THERE_AND_BACK, (point, LONGITUDE, longitude)), 7, 0
+        yield changed(THERE_AND_BACK, (point, LATITUDE, latitude), (point, LONGITUDE, longitude)), 6, 0
+    for first, second in itertools.combinations(range(3), 2):
+        yield changed(THERE_AND_BACK, (first, LATITUDE, 900_000_001), (second, LONGITUDE, 1_800_000_000)), 6, 0
+        yield changed(THERE_AND_BACK, (first, LONGITUDE, 1_800_000_000), (second, LATITUDE, 900_000_001)), 7, 0
+    # "order 17, 9, 6 and 7 by point"
+    most = TO_AND_FRO[:-NUMBERS]
+    yield from ((most, 0, 999 * 20_015_086_860), (TO_AND_FRO, 9, 0), (most[:-1], 17, 0), ((*TO_AND_FRO, 0), 17, 0))
+    for bad_point, number in (((0, LATITUDE, LEAST), 6), ((500, LONGITUDE, GREATEST), 7), ((999, LATITUDE, 900_000_001), 6)):
+        yield changed(most, bad_point), number, 0
+        yield changed(TO_AND_FRO, bad_point), 9, 0
+        for bad_third in ((0, THIRD, 0), (500, THIRD, 2), (999, THIRD, -1)):
+            yield changed(most, bad_point, bad_third), 17, 0
+            yield changed(TO_AND_FRO, bad_point, bad_third), 17, 0
+    yield from ((changed(TO_AND_FRO, (1000, LATITUDE, 900_000_001)), 9, 0), (changed(TO_AND_FRO, (1000, THIRD, 2)), 17, 0))
+
+
+# behind the fields stands 1, as nothing changes
+MEASURES = [(('measure', numbers), (number, length, 1)) for numbers, number, length in buffers()]
+FIGURES = [*SINES.items(), *SHEETS.items(), *BACK.items(), *BOTH_WAYS.items(), *STEPS, *orders(), *MEASURES, *readings()]

@@ -2,7 +2,8 @@
 the doors for C over all of these.
 
 Each rule is written from the document's sentence, which stands above it in quotes, and not from the Rattle definitions. So the tests hold
-the compiled code to a second reading of the same page. Nothing here is quick.
+the compiled code to a second reading of the same page. What refuses a point buffer is quoted from the first of the later requests. Nothing
+here is quick.
 """
 import math
 import re
@@ -345,6 +346,33 @@ def leg_door(latitude, longitude, latitude2, longitude2):
     return (refusal, 0) if refusal else (0, leg(latitude, longitude, latitude2, longitude2))
 
 
+def bad_thirds(numbers):
+    # "17 buffer not a multiple of three, a third number other than 0 or 1, or a first one of 0": over all of it
+    thirds = numbers[2::NUMBERS]
+    return 17 if len(numbers) % NUMBERS or not set(thirds) <= {0, 1} or 0 in thirds[:1] else 0
+
+
+def bad_count(numbers):
+    # "at most 1,000 such lines"; "9: the 1,001st `p` line"
+    return 9 if len(numbers) > MOST_NUMBERS else 0
+
+
+def points_of(numbers):
+    # "three numbers a point"
+    return [numbers[at:at + NUMBERS] for at in range(0, len(numbers), NUMBERS)]
+
+
+def bad_points(points):
+    # "6 and 7 by point": the first bad point decides
+    return next(filter(None, (bad_point(latitude, longitude) for latitude, longitude, _ in points)), 0)
+
+
+def measure_door(numbers):
+    # "order 17, 9, 6 and 7 by point"
+    refusal = bad_thirds(numbers) or bad_count(numbers) or bad_points(points_of(numbers))
+    return (refusal, 0) if refusal else (0, length_of(points_of(numbers)))
+
+
 def pen_door(pen, left, right, bottom, top, divisor, meridian, latitude, longitude, third):
     # "Pen step: 12, 13, 14, 6, 7."
     refusal = bad_window(left, right, bottom, top) or bad_divisor(divisor) or bad_meridian(meridian) or bad_point(latitude, longitude)
@@ -362,6 +390,7 @@ DOORS = {
     'cylindrical_back': lambda *place: back_door(cylindrical_back, *place),
     'sinusoidal_back': lambda *place: back_door(sinusoidal_back, *place),
     'leg': leg_door,
+    'measure': measure_door,
     'read_route': read,
     'pen_step': pen_door,
 }

@@ -1,8 +1,10 @@
-"""The doors for C, called through the driver doors.c: on the documents' figures, at the limits of every argument, and on random calls.
+"""The doors for C, called through the driver doors.c: on the documents' figures, at the limits of every argument, over every row of the
+table, with texts and buffers wherever they may lie, and on random calls.
 
 Answers are compared as lines, which have every field and every number of a lent buffer. What the documents say holds the doors and the
 model; to any other call the doors have to answer what the model answers.
 """
+import collections
 import itertools
 import math
 import pathlib
@@ -14,17 +16,19 @@ from unittest import mock
 import calls
 import doors
 import model
-from figures import DOWN, FIGURES, UP, route
-from model import ENTRIES, HALF_TURN, QUARTER, STEP
+from figures import ACCEPTED_TEXTS, DOWN, FIGURES, MEASURES, REFUSED_TEXTS, THIRD, UP, route
+from model import ENTRIES, HALF_TURN, NUMBERS, QUARTER, STEP
 from test_routes import COUNT, ROUTES, SEED
 
 # the refusals of each door; 0 is none
 REFUSALS = {
     'long_sine': {0, 6}, 'short_sine': {0, 6}, 'cylindrical': {0, 6, 7, 14}, 'sinusoidal': {0, 6, 7, 14}, 'cylindrical_back': {0, 11, 14},
-    'sinusoidal_back': {0, 11, 14}, 'leg': {0, 6, 7}, 'read_route': set(range(11)), 'pen_step': {0, 6, 7, 12, 13, 14},
+    'sinusoidal_back': {0, 11, 14}, 'leg': {0, 6, 7}, 'measure': {0, 6, 7, 9, 17}, 'read_route': set(range(11)),
+    'pen_step': {0, 6, 7, 12, 13, 14},
 }
 
-BAD_POINT, DRAWN, GREATEST_ANGLE, PEN_DOOR, READ = model.bad_point, model.drawn, model.greatest_angle, model.pen_door, model.read
+BAD_POINT, BAD_POINTS, BAD_THIRDS, DRAWN, GREATEST_ANGLE = model.bad_point, model.bad_points, model.bad_thirds, model.drawn, model.greatest_angle
+LINES_OF, MEASURE_DOOR, NUMBER_OF, PEN_DOOR, READ = model.lines_of, model.measure_door, model.number_of, model.pen_door, model.read
 
 
 def rounded_sinusoidal(latitude, longitude, meridian):
@@ -46,6 +50,12 @@ def lifting_step(*arguments):
     return (*answer, UP if answer[0] else pen)
 
 
+def short_pen(pen, *arguments):
+    """Hands back the low 16 bits of the pen where it refuses."""
+    *answer, after = PEN_DOOR(pen, *arguments)
+    return (*answer, pen % 2**16 if answer[0] else after)
+
+
 def staying_pen(pen, *arguments):
     """Leaves the pen down outside."""
     *answer, after = DRAWN(pen, *arguments)
@@ -59,6 +69,11 @@ def leg_without_floor(latitude, longitude, latitude2, longitude2):
     product = model.short_cosine(latitude) * model.short_cosine(latitude2) * model.short_sine(q)**2
     r = math.isqrt(model.short_sine(p)**2 + product // 10**18)
     return 2 * GREATEST_ANGLE(r) * model.MILLIMETRES // model.DEGREE
+
+
+def joined_measure(numbers):
+    """Counts every leg, wherever the pen was up."""
+    return MEASURE_DOOR([0 if k >= NUMBERS and k % NUMBERS == THIRD and number == 1 else number for k, number in enumerate(numbers)])
 
 
 # parts of the model, each replaced by a wrong one
@@ -87,7 +102,30 @@ WRONG = [
     ('stroke_of', lambda pen, third: model.LINE if pen == DOWN and third == 0 else model.MOVE),
     ('stroke_of', lambda pen, third: model.LINE if pen and third != 1 else model.MOVE),
     ('drawn', staying_pen),
+    ('stroke_of', lambda pen, third: model.LINE if pen % 256 and third == 0 else model.MOVE),
+    ('stroke_of', lambda pen, third: model.LINE if pen % 2**16 and third == 0 else model.MOVE),
+    ('stroke_of', lambda pen, third: model.LINE if 0 < pen < 2**31 and third == 0 else model.MOVE),
     ('DOORS', {**model.DOORS, 'pen_step': lifting_step}),
+    ('DOORS', {**model.DOORS, 'pen_step': short_pen}),
+    ('DOORS', {**model.DOORS, 'measure': joined_measure}),
+    # numbers behind the last point left out; 9 before 17; third numbers judged in the first point alone, and in all points but the first
+    ('DOORS', {**model.DOORS, 'measure': lambda numbers: MEASURE_DOOR(numbers[:len(numbers) // NUMBERS * NUMBERS])}),
+    ('bad_thirds', lambda numbers: model.bad_count(numbers) or BAD_THIRDS(numbers)),
+    ('bad_thirds', lambda numbers: BAD_THIRDS(numbers if len(numbers) % NUMBERS else numbers[:NUMBERS])),
+    ('bad_thirds', lambda numbers: BAD_THIRDS((*numbers[:THIRD], 1, *numbers[THIRD + 1:]) if len(numbers) > THIRD else numbers)),
+    # 7 before 6 in a point
+    ('bad_points', lambda points: next(filter(None, (BAD_POINT(0, point[1]) or BAD_POINT(*point[:2]) for point in points)), 0)),
+]
+# what chance brings seldom or never: third numbers behind the 1,000th point not judged; 6 of all points before 7 of any; one byte or one
+# target taken for another
+WRONG_SELDOM = [
+    ('bad_thirds', lambda numbers: BAD_THIRDS(numbers if len(numbers) % NUMBERS else numbers[:model.MOST_NUMBERS])),
+    ('bad_points', lambda points: BAD_POINTS([(point[0], 0, 0) for point in points]) or BAD_POINTS(points)),
+    ('number_of', lambda field, *more, **rule: NUMBER_OF(field.replace(b'\xb5', b'5'), *more, **rule)),
+    ('number_of', lambda field, *more, **rule: NUMBER_OF(field.rstrip(b'\x1a'), *more, **rule)),
+    ('lines_of', lambda text: LINES_OF(text.replace(b'\x85', b'\n'))),
+    ('HEADERS', {**model.HEADERS, (b'route\tpoint\xff', True): b'.'}),
+    ('target_of', lambda field, mark, line: 1000 * NUMBER_OF(field, mark, False, 3, line) + (field == b'765')),
 ]
 
 
@@ -98,14 +136,35 @@ def modelled(given):
             room, text = arguments
             buffer = doors.lent(room)
             yield doors.line_of((*model.DOORS[door](text, buffer), 1, *buffer))
+        elif door == 'measure':
+            yield doors.line_of((*model.DOORS[door](*arguments), 1))
         else:
             yield doors.line_of(model.DOORS[door](*arguments))
 
 
-def differing(given, said, wanted):
+def differing(given, said, wanted, most=3):
     """The first of the calls that are answered otherwise than wanted, with both lines."""
     found = (difference for difference in zip(given, said, wanted) if difference[1] != difference[2])
-    return list(itertools.islice(found, 3))
+    return list(itertools.islice(found, most))
+
+
+def plain(call):
+    """A call without what says where its text and its buffer lie: the answer is the same."""
+    return call[2:] if call[0] in ('at', 'far') else call
+
+
+def rows_in(given, said):
+    """The rows of the table that ways back and legs came upon: north and south, and of half a leg along a meridian and along the equator."""
+    found = {'north': set(), 'south': set(), 'meridian': set(), 'equator': set()}
+    for (door, first, *_), line in zip(given, said):
+        refusal, value, *_ = map(int, line.split())
+        if door == 'cylindrical_back' and not refusal:
+            found['north' if value >= 0 else 'south'].add(abs(value) // STEP)
+        if door == 'leg':
+            # "The arc is 2u ticks. Its length is arc × 111,194,927 / 10,000,000 millimetres, floored": each arc has a length of its own
+            arc = -(-value * model.DEGREE // model.MILLIMETRES)
+            found['meridian' if first else 'equator'].add(arc // 2 // STEP)
+    return found
 
 
 def answered_runs(some, count, length):
@@ -143,6 +202,7 @@ class Figures(unittest.TestCase):
 
 class Compared:
     """Calls and the doors' answers, held to the model."""
+    wrong = WRONG
 
     def test_the_doors_answer_what_the_model_answers(self):
         self.assertEqual(differing(self.given, self.said, modelled(self.given)), [])
@@ -156,9 +216,9 @@ class Compared:
         self.assertEqual(strokes, {'0', '1', '2'})
 
     def test_a_model_with_one_thing_wrong_is_seen(self):
-        for name, value in WRONG:
+        for name, value in self.wrong:
             with self.subTest(name), mock.patch.object(model, name, value):
-                self.assertNotEqual(differing(self.given, self.said, modelled(self.given)), [])
+                self.assertNotEqual(differing(self.given, self.said, modelled(self.given), most=1), [])
 
     def test_one_wrong_line_is_seen(self):
         for k in (0, len(self.said) // 2, len(self.said) - 1):
@@ -168,17 +228,98 @@ class Compared:
 
 
 class Fixed(Compared, unittest.TestCase):
+    wrong = [*WRONG, *WRONG_SELDOM]
+
     @classmethod
     def setUpClass(cls):
-        cls.given = [*Figures.given, *calls.sines(), *calls.sheets(), *calls.places(), *calls.legs(), *calls.steps(), *calls.files(ROUTES)]
+        cls.given = [*Figures.given, *calls.every_byte(), *calls.sines(), *calls.sheets(), *calls.places(), *calls.legs(), *calls.steps(),
+                     *calls.files(ROUTES)]
         cls.said = doors.answers(cls.given)
+
+
+class Rows(unittest.TestCase):
+    """Every row of the table, on the way back to a latitude and to half a leg."""
+    ROWS = range(4500)
+
+    @classmethod
+    def setUpClass(cls):
+        cls.given = [call for k in cls.ROWS for call in calls.row(k)]
+        cls.said = doors.answers(cls.given)
+
+    def part(self, k):
+        """Which calls are those of a row."""
+        each = len(self.given) // len(self.ROWS)
+        return slice(k * each, (k + 1) * each)
+
+    def test_the_doors_answer_what_the_model_answers(self):
+        self.assertEqual(differing(self.given, self.said, modelled(self.given)), [])
+
+    def test_every_row_comes_up(self):
+        for name, rows in rows_in(self.given, self.said).items():
+            with self.subTest(name):
+                self.assertEqual(set(self.ROWS) - rows, set())
+
+    def test_a_row_left_out_is_seen(self):
+        given, said = list(self.given), list(self.said)
+        del given[self.part(1234)], said[self.part(1234)]
+        for name, rows in rows_in(given, said).items():
+            with self.subTest(name):
+                self.assertEqual(set(self.ROWS) - rows, {1234})
+
+    def test_a_model_with_one_row_wrong_is_seen(self):
+        for k in (*self.ROWS[::100], self.ROWS[-1]):
+            given, said = self.given[self.part(k)], self.said[self.part(k)]
+            self.assertEqual(differing(given, said, modelled(given)), [])
+            for name, value in (('ENTRIES', [*ENTRIES[:k + 1], ENTRIES[k + 1] - 1, *ENTRIES[k + 2:]]),
+                                ('greatest_angle', lambda r: GREATEST_ANGLE(r) - 1)):
+                with self.subTest(name, row=k), mock.patch.object(model, name, value):
+                    self.assertNotEqual(differing(given, said, modelled(given)), [])
+
+
+class Placed(unittest.TestCase):
+    """Texts and buffers at every alignment, and right beside memory that may not be read."""
+    GIVEN = [*(('read_route', calls.room_for(text.count(b'\np\t')), text) for text, *_ in (*REFUSED_TEXTS, *ACCEPTED_TEXTS)),
+             *(call for call, _ in MEASURES)]
+
+    def differing_at(self, places, given):
+        placed = [('at', place, *call) for call in given for place in places]
+        return differing(placed, doors.answers(placed), (line for line in modelled(given) for _ in places))
+
+    def test_at_every_alignment(self):
+        # of 64 bytes, and of 64 numbers, from either end of the memory
+        short = [call for call in self.GIVEN if len(call[-1]) < 200]
+        self.assertEqual(self.differing_at([*range(64), *range(-64, 0)], short), [])
+
+    def test_beside_what_may_not_be_read(self):
+        self.assertEqual(self.differing_at([0, -1], self.GIVEN), [])
+
+
+class Counts(unittest.TestCase):
+    """Counts of 2^32 and more: a door that takes 32 bits of one answers otherwise, or looks where it may not. The last count in each test is the
+    most that the language has; no machine has that memory, and the doors have to answer without a look at it."""
+
+    def test_a_text(self):
+        # "1 first"
+        given = [('far_text', count) for count in (60_001, 2**31, 2**32 - 1, 2**32, 2**32 + 12, 2**32 + 60_000, 2**34, 2**63 - 1)]
+        self.assertEqual(doors.answers(given), len(given) * ['1 0 0 0 0 0'])
+
+    def test_a_buffer_that_is_lent(self):
+        # "the rest of the buffer is unchanged": here what follows the points in its memory
+        routes = [('read_route', len(numbers) + NUMBERS, text) for text, _, numbers in ACCEPTED_TEXTS]
+        given = [('far', count, *reading) for count in (2**31, 2**32, 2**32 + 5, 2**61 - 1) for reading in routes]
+        self.assertEqual(differing(given, doors.answers(given), modelled(map(plain, given))), [])
+
+    def test_a_buffer_that_is_measured(self):
+        # "17 buffer not a multiple of three"; a multiple of three is judged to its end, which takes more than a test has
+        given = [('far', count, 'measure', (0, 0, 1)) for count in (2**32, 2**32 + 1, 2**32 + 3, 2**61 - 1)]
+        self.assertEqual(doors.answers(given), len(given) * ['17 0 1'])
 
 
 class Random(Compared, unittest.TestCase):
     @classmethod
     def setUpClass(cls):
         some = random.Random(SEED)
-        cls.given = [*calls.random_calls(some, 50 * COUNT), *calls.random_readings(some, COUNT)]
+        cls.given = [*calls.random_calls(some, 50 * COUNT), *calls.random_readings(some, COUNT), *calls.random_measures(some, COUNT)]
         cls.said = doors.answers(cls.given)
         given, said = answered_runs(some, COUNT // 4, 40)
         cls.given += given
@@ -187,41 +328,74 @@ class Random(Compared, unittest.TestCase):
 
 
 class Guards(unittest.TestCase):
-    # the linker puts this between the driver and the library's reader
+    # the linker puts this between the driver and the library's doors
     BETWEEN = """
         #include <senruhobi.h>
         senruhobi_reading __real_senruhobi_read_route(const uint8_t *, size_t, int32_t *, size_t);
         senruhobi_reading __wrap_senruhobi_read_route(const uint8_t *text, size_t bytes, int32_t *buffer, size_t numbers)
         {
-            senruhobi_reading r = __real_senruhobi_read_route(text, bytes%s, buffer, numbers);
-            %s
+            %(before_reading)s;
+            senruhobi_reading r = __real_senruhobi_read_route(text, bytes, buffer, numbers);
+            %(after_reading)s;
+            return r;
+        }
+        senruhobi_length __real_senruhobi_measure(const int32_t *, size_t);
+        senruhobi_length __wrap_senruhobi_measure(const int32_t *points, size_t numbers)
+        {
+            %(before_measuring)s;
+            senruhobi_length r = __real_senruhobi_measure(points, numbers);
+            %(after_measuring)s;
             return r;
         }
     """
-    GIVEN = [('read_route', 8, route('point', 'p 0 0', 'p 0 90')), ('read_route', 8, route('point', 'p 0 0')[:-1])]
+    READ = [('read_route', 8, route('point', 'p 0 0', 'p 0 90')), ('read_route', 8, route('point', 'p 0 0')[:-1])]
+    MEASURED = [('measure', (0, 0, 1, 0, 900_000_000, 0)), ('measure', (0, 0, 0))]
 
-    def seen(self, more, after):
-        """How many calls are answered otherwise than they should be, where the reader is spoilt."""
+    def answers(self, given, **spoilt):
+        """What the doors answer, spoilt in the places named."""
         with tempfile.TemporaryDirectory() as room:
             source = pathlib.Path(room) / 'between.c'
-            source.write_text(self.BETWEEN % (more, after), encoding='utf-8')
-            program = doors.linked(source.parent, '--wrap=senruhobi_read_route', doors.compiled(source, source.parent))
-            return len(differing(self.GIVEN, doors.answers(self.GIVEN, program), modelled(self.GIVEN)))
+            source.write_text(self.BETWEEN % collections.defaultdict(str, spoilt), encoding='utf-8')
+            wrapped = ['--wrap=senruhobi_read_route', '--wrap=senruhobi_measure']
+            return doors.answers(given, doors.linked(source.parent, *wrapped, doors.compiled(source, source.parent)))
 
-    def test_a_reader_that_is_not_spoilt(self):
-        self.assertEqual(self.seen('', ''), 0)
+    def seen(self, given, **spoilt):
+        """How many calls the spoilt doors answer otherwise than they should."""
+        return len(differing(given, self.answers(given, **spoilt), modelled(map(plain, given))))
 
-    def test_a_reader_that_changes_what_is_not_its_own(self):
-        # beside the buffer, at both ends of the driver's array, and in the text
-        for place in ('buffer[-1]', 'buffer[-4096]', 'buffer[numbers]', 'buffer[8191]', '((uint8_t *)text)[bytes - 1]'):
+    def test_doors_that_are_not_spoilt(self):
+        given = [*self.READ, *self.MEASURED]
+        self.assertEqual(self.seen([*given, *(('at', place, *call) for call in given for place in (0, -1))]), 0)
+
+    def test_a_door_that_changes_what_is_not_its_own(self):
+        # beside the buffer, at both ends of the driver's memory, in the text, and in what is only measured
+        for place in ('buffer[-1]', 'buffer[-4096]', 'buffer[numbers]', 'buffer[12287]', '((uint8_t *)text)[bytes - 1]'):
             with self.subTest(place):
-                self.assertEqual(self.seen('', f'{place} = 0;'), 2)
+                self.assertEqual(self.seen(self.READ, after_reading=f'{place} = 0'), 2)
+        for place in ('[-1]', '[-4096]', '[numbers]', '[12287]', '[0]', '[numbers - 1]'):
+            with self.subTest(place):
+                self.assertEqual(self.seen(self.MEASURED, after_measuring=f'((int32_t *)points){place} = 7'), 2)
 
     def test_a_reader_that_changes_the_rest_of_the_buffer(self):
-        self.assertEqual(self.seen('', 'buffer[numbers - 1] = 0;'), 2)
+        self.assertEqual(self.seen(self.READ, after_reading='buffer[numbers - 1] = 0'), 2)
 
     def test_a_reader_that_goes_on_behind_the_text(self):
-        self.assertEqual(self.seen(' + 1', ''), 2)
+        self.assertEqual(self.seen(self.READ, before_reading='bytes++'), 2)
+
+    def test_a_door_that_looks_where_it_may_not(self):
+        for when, call, begin, behind in (('before_reading', self.READ[0], 'text', 'bytes'), ('before_reading', self.READ[0], 'buffer', 'numbers'),
+                                          ('before_measuring', self.MEASURED[0], 'points', 'numbers')):
+            for place, what in ((0, f'{begin} - 1'), (-1, f'{begin} + {behind}')):
+                with self.subTest(what), self.assertRaisesRegex(RuntimeError, f'{call[0]} in line 1 read or wrote where it may not'):
+                    self.answers([('at', place, *call)], **{when: f'(void)*(volatile const uint8_t *)({what})'})
+
+    def test_a_door_that_takes_32_bits_of_a_count(self):
+        cut = {'before_reading': 'bytes = (uint32_t)bytes, numbers = (uint32_t)numbers', 'before_measuring': 'numbers = (uint32_t)numbers'}
+        given = [('far_text', 2**32), *(('far', 2**32 + 5, *call) for call in self.READ), ('far', 2**32 + 3, 'measure', (0, 0, 1))]
+        self.assertEqual([line.split()[0] for line in self.answers(given)], ['1', '0', '3', '17'])
+        self.assertEqual([line.split()[0] for line in self.answers(given, **cut)], ['2', '10', '3', '0'])
+        with self.assertRaisesRegex(RuntimeError, 'where it may not'):
+            self.answers([('far_text', 2**32 + 12)], **cut)
 
 
 if __name__ == '__main__':

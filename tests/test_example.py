@@ -1,5 +1,8 @@
-"""The example for C: it builds, it prints what the documents' rules say, and the README shows it as it is."""
+"""The examples for C and Rust build as the README says and print what the documents' rules say, and the README shows them as they are."""
+import ctypes
 import pathlib
+import re
+import subprocess
 import tempfile
 import textwrap
 import unittest
@@ -8,7 +11,9 @@ import built
 import doors
 import model
 
+README = built.ROOT / 'README.md'
 SOURCE = built.ROOT / 'examples/draw.c'
+QUARTER = model.leg(0, 0, 0, model.QUARTER)  # of the equator
 TEXT = b'route\tcomma\nt\t55,5\np\t60\t10\np\t60\t11\ng\np\t60,5\t10,5\np\t-33,9\t151,2\n'
 WINDOW, DIVISOR, MERIDIAN = (0.0, 1e9, 0.0, 1e10), 1_000_000, 0
 STROKES = {0: 'outside', 1: 'move', 2: 'line'}
@@ -27,6 +32,18 @@ def expected():
     return '\n'.join(said) + '\n'
 
 
+def commands(word):
+    """The README's command lines with a word in them."""
+    return re.findall(rf'^    (.*\b{word}\b.*)$', README.read_text(encoding='utf-8'), re.M)
+
+
+def done_in(folder, command):
+    """Runs one of the README's command lines from a folder, over links to what it names of the project."""
+    for name in ('examples', 'include', 'target'):
+        (folder / name).symlink_to(built.ROOT / name)
+    return subprocess.run(['/bin/sh', '-c', command], cwd=folder, capture_output=True, text=True)
+
+
 class Example(unittest.TestCase):
     def test_it_prints_what_the_model_says(self):
         with tempfile.TemporaryDirectory() as room:
@@ -34,9 +51,42 @@ class Example(unittest.TestCase):
             self.assertEqual(built.run(program).decode(), expected())
 
     def test_the_readme_shows_it(self):
-        readme = (built.ROOT / 'README.md').read_text(encoding='utf-8')
+        readme = README.read_text(encoding='utf-8')
         for shown in (SOURCE.read_text(encoding='utf-8'), expected()):
             self.assertIn(textwrap.indent(shown, '    '), readme)
+
+    @built.needs('cc')
+    @built.on_x86_64
+    def test_it_builds_as_the_readme_says(self):
+        build, = commands('draw.c')
+        with tempfile.TemporaryDirectory() as room:
+            ran = done_in(pathlib.Path(room), build)
+            self.assertEqual((ran.returncode, ran.stdout, ran.stderr), (0, expected(), ''))
+
+    @built.needs('cc')
+    @built.needs('rustc')
+    @built.on_x86_64
+    def test_the_one_in_rust_builds_as_the_readme_says(self):
+        build, = commands('length.rs')
+        with tempfile.TemporaryDirectory() as room:
+            ran = done_in(pathlib.Path(room), build)
+            self.assertEqual((ran.returncode, ran.stdout, ran.stderr), (0, f'{QUARTER} mm\n', ''))
+        self.assertIn(f'prints `{QUARTER} mm`', README.read_text(encoding='utf-8'))
+
+    @built.needs('cc')
+    @built.on_x86_64
+    def test_a_shared_library_builds_as_the_readme_says(self):
+        class Length(ctypes.Structure):
+            _fields_ = [('refusal', ctypes.c_uint32), ('millimetres', ctypes.c_uint64)]
+
+        build, = commands('shared')
+        with tempfile.TemporaryDirectory() as room:
+            ran = done_in(pathlib.Path(room), build)
+            self.assertEqual((ran.returncode, ran.stderr), (0, ''))
+            leg = ctypes.CDLL(str(pathlib.Path(room) / 'libsenruhobi.so')).senruhobi_leg
+            leg.restype = Length
+            length = leg(0, 0, 0, model.QUARTER)
+            self.assertEqual((length.refusal, length.millimetres), (0, QUARTER))
 
 
 if __name__ == '__main__':

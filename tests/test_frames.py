@@ -5,31 +5,23 @@ first return, r11 may hold an argument, and what the function answers is nonsens
 made first"). So in every program that the gate has built, and in the doors for C, nothing but pushes may stand before such a loop.
 """
 import re
-import struct
 import unittest
 
 import built
 import doors
+import elf
 
 PROBE = bytes.fromhex('4989e3 4981eb')  # mov r11, rsp; sub r11, the frame's pages
 PUSHES = re.compile(rb'(?:[\x50-\x57]|\x41[\x50-\x57])*')
 
 
-def functions(elf):
+def functions(program):
     """The name and the code of each function of an x86-64 program, by its symbol table."""
-    at, count = struct.unpack_from('<Q', elf, 0x28)[0], struct.unpack_from('<H', elf, 0x3c)[0]
-    # a section: name, type, flags, address, offset, size, link
-    sections = [struct.unpack_from('<IIQQQQI', elf, at + 0x40 * k) for k in range(count)]
-    for _, kind, _, _, offset, size, link in sections:
-        if kind != 2:  # the symbol table
-            continue
-        names = sections[link][4]
-        for entry in range(offset, offset + size, 24):
-            name, info, _, section, value, length = struct.unpack_from('<IBBHQQ', elf, entry)
-            if info & 15 == 2 and 0 < section < count:  # a function that has code here
-                start = value - sections[section][3] + sections[section][4]
-                end = elf.index(b'\0', names + name)
-                yield elf[names + name:end].decode(), elf[start:start + length]
+    found = elf.sections(program)
+    for symbol in elf.symbols(program):
+        if symbol.function and 0 < symbol.section < len(found):  # it has code here
+            start = symbol.value - found[symbol.section].address + found[symbol.section].offset
+            yield symbol.name, program[start:start + symbol.size]
 
 
 def late(code):

@@ -1,38 +1,111 @@
-"""The header for C says the same of a point buffer as the crate that knows how one is laid out."""
+"""The header for C: its constants and refusals are the crates', its example runs, and the library is what it says of it."""
+import math
+import pathlib
 import re
+import tempfile
+import textwrap
 import unittest
 
 import built
+import doors
+import elf
+import model
 
-NAMES = ('NUMBERS', 'MOST_POINTS', 'MOST_NUMBERS')
+HEADER = built.ROOT / 'include/senruhobi.h'
+# the constants, and the crate that knows each
+CONSTANTS = {'NUMBERS': 'points', 'MOST_POINTS': 'points', 'MOST_NUMBERS': 'points', 'MOST_BYTES': 'route'}
+IN_RATTLE = re.compile(r'\bconst (\w+): \w+ = ([\w *]+);')
+IN_C = re.compile(r'\bSENRUHOBI_(\w+) = ([\w *]*\w)')
+REFUSED = re.compile(r'SENRUHOBI_REFUSED_(\w+) = (\d+),? /\* (.*) \*/')
+DOOR = re.compile(r'^senruhobi_\w+ (senruhobi_\w+)\(', re.M)
 
 
-def said(text, prefix):
+def source(crate):
+    return (built.ROOT / 'crates' / crate / 'src/lib.rt').read_text(encoding='utf-8')
+
+
+def constants(pattern, text):
     """The value of each constant that a text sets, worked out from the numbers and constants that it names."""
-    found = dict(re.findall(rf'\b{prefix}(\w+)(?:: usize)? = ([\w *]+)', text))
+    found = {name: said.replace('SENRUHOBI_', '') for name, said in pattern.findall(text)}
 
-    def value(of):
-        words = [word.strip().removeprefix(prefix) for word in found[of].split('*')]
-        product = 1
-        for word in words:
-            product *= value(word) if word in found else int(word)
-        return product
+    def value(said):
+        return math.prod(value(found[word]) if word in found else int(word) for word in said.split(' * '))
 
-    return {name: value(name) for name in NAMES}
+    return {name: value(said) for name, said in found.items()}
+
+
+def example(header):
+    """The example in the header's first comment."""
+    lines = re.findall(r'^ \*(     .*|)$', header, re.M)
+    return textwrap.dedent('\n'.join(lines)).strip() + '\n'
+
+
+def library():
+    return list(elf.members(built.under_target('staticlib/libsenruhobi.a', 'rt staticlib senruhobi').read_bytes()))
 
 
 class Header(unittest.TestCase):
     def setUp(self):
-        self.header = (built.ROOT / 'include/senruhobi.h').read_text(encoding='utf-8')
-        self.crate = said((built.ROOT / 'crates/points/src/lib.rt').read_text(encoding='utf-8'), '')
+        self.header = HEADER.read_text(encoding='utf-8')
 
-    def test_the_layout_of_a_point_buffer(self):
-        self.assertEqual(said(self.header, 'SENRUHOBI_'), self.crate)
+    def differing(self, header):
+        """The constants and refusals that a header says otherwise than the crates."""
+        said = constants(IN_C, header)
+        wanted = {name: constants(IN_RATTLE, source(crate))[name] for name, crate in CONSTANTS.items()}
+        found = {name for name in wanted if said.get(name) != wanted[name]}
+        refusals = constants(IN_RATTLE, source('refusals'))
+        named = {name: int(number) for name, number, _ in REFUSED.findall(header)}
+        return found | {name for name in refusals.keys() | named.keys() if refusals.get(name) != named.get(name)}
 
-    def test_another_layout_is_seen(self):
-        for old, new in (('SENRUHOBI_NUMBERS = 3', 'SENRUHOBI_NUMBERS = 4'), ('SENRUHOBI_MOST_POINTS = 1000', 'SENRUHOBI_MOST_POINTS = 1001')):
+    def test_constants_and_refusals_are_the_crates(self):
+        self.assertEqual(self.differing(self.header), set())
+
+    def test_a_header_that_says_otherwise_is_seen(self):
+        for old, new, name in (('_NUMBERS = 3', '_NUMBERS = 4', 'NUMBERS'), ('_MOST_POINTS = 1000', '_MOST_POINTS = 1001', 'MOST_POINTS'),
+                               ('_BYTES = 60000', '_BYTES = 60001', 'MOST_BYTES'), ('_PLACE = 11', '_PLACE = 12', 'PLACE'),
+                               ('_REFUSED_BUFFER', '_REFUSED_OTHER', 'BUFFER'), ('_REFUSED_BUFFER', '_REFUSED_OTHER', 'OTHER')):
             self.assertIn(old, self.header)
-            self.assertNotEqual(said(self.header.replace(old, new), 'SENRUHOBI_'), self.crate)
+            self.assertIn(name, self.differing(self.header.replace(old, new)))
+
+    def test_the_readme_has_the_same_table(self):
+        readme = (built.ROOT / 'README.md').read_text(encoding='utf-8')
+        self.assertEqual(re.findall(r'^\| (\d+) \| (.*) \|$', readme, re.M), [(number, why) for _, number, why in REFUSED.findall(self.header)])
+
+    def test_its_example_runs(self):
+        length = model.leg(0, 0, 0, model.QUARTER)
+        with tempfile.TemporaryDirectory() as room:
+            file = pathlib.Path(room) / 'example.c'
+            file.write_text(example(self.header), encoding='utf-8')
+            self.assertEqual(built.run(doors.linked(file.parent, source=file)).decode(), f'{length} {length} {length}\nno such latitude\n')
+
+    def test_its_doors_are_the_library_s(self):
+        names = set(DOOR.findall(self.header))
+        exported = {symbol.name for member in library() for symbol in elf.symbols(member)
+                    if symbol.section and symbol.shared and symbol.name.startswith('senruhobi_')}
+        self.assertEqual(names, exported)
+        self.assertEqual(names, set(re.findall(r'pub extern "C" fn (\w+)', source('senruhobi'))))
+        self.assertEqual(names, {f'senruhobi_{door}' for door in model.DOORS})
+
+    def test_the_library_writes_to_no_data_and_calls_nothing_but_two_functions(self):
+        self.assertEqual([elf.written_to(member) for member in library()], [0 for _ in library()])
+        wanted = {symbol.name for member in library() for symbol in elf.symbols(member) if not symbol.section and symbol.name}
+        self.assertEqual(wanted, {'memcpy', 'memset'})
+
+    def test_the_stack_that_a_call_takes(self):
+        with tempfile.TemporaryDirectory() as room:
+            said = built.run(doors.linked(pathlib.Path(room), source=doors.TESTS / 'stack.c')).decode()
+        taken = {door: int(size) for door, size in map(str.split, said.splitlines())}
+        self.assertEqual(taken.keys(), model.DOORS.keys())
+        reading = taken.pop('read_route')
+        sizes = [str(math.ceil(size / 1000)) for size in (max(taken.values()), reading)]
+        self.assertEqual(re.findall(r'a call takes some (\d+) KB, a reading some (\d+) KB', self.header), [tuple(sizes)])
+
+    def test_data_that_is_written_to_is_seen(self):
+        with tempfile.TemporaryDirectory() as room:
+            file = pathlib.Path(room) / 'data.c'
+            for text, size in (('const int a = 1;', 0), ('int a = 1;', 4), ('int a[2];', 8)):
+                file.write_text(text, encoding='utf-8')
+                self.assertEqual(elf.written_to(doors.compiled(file, file.parent).read_bytes()), size)
 
 
 if __name__ == '__main__':

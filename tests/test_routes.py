@@ -1,4 +1,4 @@
-"""The program `routereport`: on the texts of tests/routes, on texts at the limits of size, and on random ones.
+"""The program `routereport`: on the texts of tests/routes, on texts at the limits of size, with every value of a byte, and on random ones.
 
 In tests/routes each NAME.route holds the bytes given and NAME.report the bytes expected. The expected lengths are the document's figures or
 the model's, never the program's, and the model is held to the same files.
@@ -93,6 +93,7 @@ class Files(unittest.TestCase):
         names = {path.name for path in ROUTES.iterdir()}
         stems = {pathlib.Path(name).stem for name in names}
         self.assertEqual(names, {stem + end for stem in stems for end in ('.route', '.report')})
+        self.assertEqual(len(stems), 262)  # one that is gone is missed
 
     def test_names_tell_the_answers_and_no_refusal_is_left_out(self):
         numbers = set()
@@ -164,6 +165,26 @@ class Sizes(unittest.TestCase):
                 ours.close()
                 self.assertEqual(running.stdout.read(), model.report(text))
             self.assertEqual(running.returncode, 0)
+
+
+class Bytes(unittest.TestCase):
+    def test_every_value_of_a_byte(self):
+        # each at another place; through the doors every value stands at every place
+        text = POINT + b't\t1.5\np\t-2.5\t34\ng\np\t4\t5\n'
+        given = [text[:value % len(text)] + bytes([value]) + text[value % len(text):] for value in range(256)]
+        self.assertEqual(differing(given, [program(text) for text in given], model.report), [])
+
+    def test_the_other_mark_at_every_place_of_a_number(self):
+        for header, number, other in ((POINT, b'-1.5', b','), (COMMA, b'-1,5', b'.')):
+            for at in range(len(number) + 1):
+                spoilt = number[:at] + other + number[at:]
+                for line in (b't\t%b\n', b'p\t%b\t0\n', b'p\t0\t%b\n'):
+                    self.assertEqual(program(header + line % spoilt), refused(5, 2))
+
+    def test_targets_without_decimals(self):
+        for header in (POINT, COMMA):
+            for kilometres in (0, 7, 10, 99, 100, 999):
+                self.assertEqual(program(header + b't\t%d\n' % kilometres), accepted(0, 0, b'%d' % (1_000_000 * kilometres)))
 
 
 class Random(unittest.TestCase):

@@ -27,6 +27,9 @@ senruhobi-sinusoidal-back = answers (λ κs a v w. refl)
 pub senruhobi-leg : One senruhobi.senruhobi_leg.ended senruhobi.senruhobi_leg.Reads.Asked senruhobi.senruhobi_leg.Reads.Learnt
 senruhobi-leg = answers (λ κs a v w. refl)
 
+pub senruhobi-measure : One senruhobi.senruhobi_measure.ended senruhobi.senruhobi_measure.Reads.Asked senruhobi.senruhobi_measure.Reads.Learnt
+senruhobi-measure = answers (λ κs a v w. refl)
+
 pub senruhobi-read-route : One senruhobi.senruhobi_read_route.ended senruhobi.senruhobi_read_route.Reads.Asked senruhobi.senruhobi_read_route.Reads.Learnt
 senruhobi-read-route = leaves (λ κs a v w p. ap (λ (l : List ℤ). (tt, (l, tt))) p)
 

@@ -6,6 +6,7 @@ ghost use Rattle.globe.specs.Paper.{sinePaper, placePaper, pointPaper, lengthPa
 ghost use Rattle.globe.specs.Angle.{longSineOf, shortSineOf};
 ghost use Rattle.globe.specs.Sheet.{cylindricalOf, sinusoidalOf, cylindricalBackOf, sinusoidalBackOf};
 ghost use Rattle.globe.specs.Leg.{legOf};
+ghost use Rattle.globe.specs.Measure.{measureOf};
 ghost use Rattle.route.specs.Paper.{readingPaper};
 ghost use Rattle.route.specs.Route.{readingOf, bufferOf};
 ghost use Rattle.pen.specs.Paper.{stepped};
@@ -76,6 +77,13 @@ pub extern "C" fn senruhobi_leg(
 }
 
 // A slice is a pointer and a count for C.
+#[no_mangle]
+pub extern "C" fn senruhobi_measure(points: &[i32]) -> LengthOut
+    ensures { λ r. ⌜ r ≡ lengthPaper (measureOf (now (points .entry))) ⌝ }
+{
+    out::length(globe::measure(points))
+}
+
 #[no_mangle]
 pub extern "C" fn senruhobi_read_route(text: &[u8], buffer: &mut [i32]) -> ReadingOut
     ensures { λ r. ⌜ r ≡ readingPaper (readingOf (now (text .entry)) (length (now (buffer .entry)))) ⌝ }
