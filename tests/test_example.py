@@ -1,4 +1,5 @@
 """The examples for C and Rust build as the README says and print what the documents' rules say, and the README shows them as they are."""
+import contextlib
 import ctypes
 import pathlib
 import re
@@ -32,16 +33,17 @@ def expected():
     return '\n'.join(said) + '\n'
 
 
-def commands(word):
-    """The README's command lines with a word in them."""
-    return re.findall(rf'^    (.*\b{word}\b.*)$', README.read_text(encoding='utf-8'), re.M)
-
-
-def done_in(folder, command):
-    """Runs one of the README's command lines from a folder, over links to what it names of the project."""
-    for name in ('examples', 'include', 'target'):
-        (folder / name).symlink_to(built.ROOT / name)
-    return subprocess.run(['/bin/sh', '-c', command], cwd=folder, capture_output=True, text=True)
+@contextlib.contextmanager
+def built_by_the_readme(word):
+    """What the README's command line with a word in it prints, and the folder that it is run in, over links to what it names of the project."""
+    command, = re.findall(rf'^    (.*\b{word}\b.*)$', README.read_text(encoding='utf-8'), re.M)
+    with tempfile.TemporaryDirectory() as room:
+        for name in ('examples', 'include', 'target'):
+            pathlib.Path(room, name).symlink_to(built.ROOT / name)
+        ran = subprocess.run(['/bin/sh', '-c', command], cwd=room, capture_output=True, text=True)
+        if ran.returncode or ran.stderr:
+            raise RuntimeError(f'{command} ended with status {ran.returncode} and said {ran.stderr!r}')
+        yield ran.stdout, room
 
 
 class Example(unittest.TestCase):
@@ -58,19 +60,15 @@ class Example(unittest.TestCase):
     @built.needs('cc')
     @built.on_x86_64
     def test_it_builds_as_the_readme_says(self):
-        build, = commands('draw.c')
-        with tempfile.TemporaryDirectory() as room:
-            ran = done_in(pathlib.Path(room), build)
-            self.assertEqual((ran.returncode, ran.stdout, ran.stderr), (0, expected(), ''))
+        with built_by_the_readme('draw.c') as (said, _):
+            self.assertEqual(said, expected())
 
     @built.needs('cc')
     @built.needs('rustc')
     @built.on_x86_64
     def test_the_one_in_rust_builds_as_the_readme_says(self):
-        build, = commands('length.rs')
-        with tempfile.TemporaryDirectory() as room:
-            ran = done_in(pathlib.Path(room), build)
-            self.assertEqual((ran.returncode, ran.stdout, ran.stderr), (0, f'{QUARTER} mm\n', ''))
+        with built_by_the_readme('length.rs') as (said, _):
+            self.assertEqual(said, f'{QUARTER} mm\n')
         self.assertIn(f'prints `{QUARTER} mm`', README.read_text(encoding='utf-8'))
 
     @built.needs('cc')
@@ -79,11 +77,8 @@ class Example(unittest.TestCase):
         class Length(ctypes.Structure):
             _fields_ = [('refusal', ctypes.c_uint32), ('millimetres', ctypes.c_uint64)]
 
-        build, = commands('shared')
-        with tempfile.TemporaryDirectory() as room:
-            ran = done_in(pathlib.Path(room), build)
-            self.assertEqual((ran.returncode, ran.stderr), (0, ''))
-            leg = ctypes.CDLL(str(pathlib.Path(room) / 'libsenruhobi.so')).senruhobi_leg
+        with built_by_the_readme('shared') as (_, room):
+            leg = ctypes.CDLL(f'{room}/libsenruhobi.so').senruhobi_leg
             leg.restype = Length
             length = leg(0, 0, 0, model.QUARTER)
             self.assertEqual((length.refusal, length.millimetres), (0, QUARTER))

@@ -1,4 +1,4 @@
-"""The header for C: its constants and refusals are the crates', its example runs, and the library is what it says of it."""
+"""The header for C: its constants and refusals are the crates', its strokes the model's, its example runs, and the library is what it says."""
 import math
 import pathlib
 import re
@@ -49,21 +49,23 @@ class Header(unittest.TestCase):
         self.header = HEADER.read_text(encoding='utf-8')
 
     def differing(self, header):
-        """The constants and refusals that a header says otherwise than the crates."""
+        """The constants and refusals that a header says otherwise than the crates, and the strokes otherwise than the model."""
         said = constants(IN_C, header)
-        wanted = {name: constants(IN_RATTLE, source(crate))[name] for name, crate in CONSTANTS.items()}
+        wanted = {'OUTSIDE': model.OUTSIDE, 'MOVE': model.MOVE, 'LINE': model.LINE}
+        wanted.update((name, constants(IN_RATTLE, source(crate))[name]) for name, crate in CONSTANTS.items())
         found = {name for name in wanted if said.get(name) != wanted[name]}
         refusals = constants(IN_RATTLE, source('refusals'))
         named = {name: int(number) for name, number, _ in REFUSED.findall(header)}
         return found | {name for name in refusals.keys() | named.keys() if refusals.get(name) != named.get(name)}
 
-    def test_constants_and_refusals_are_the_crates(self):
+    def test_constants_refusals_and_strokes(self):
         self.assertEqual(self.differing(self.header), set())
 
     def test_a_header_that_says_otherwise_is_seen(self):
         for old, new, name in (('_NUMBERS = 3', '_NUMBERS = 4', 'NUMBERS'), ('_MOST_POINTS = 1000', '_MOST_POINTS = 1001', 'MOST_POINTS'),
                                ('_BYTES = 60000', '_BYTES = 60001', 'MOST_BYTES'), ('_PLACE = 11', '_PLACE = 12', 'PLACE'),
-                               ('_REFUSED_BUFFER', '_REFUSED_OTHER', 'BUFFER'), ('_REFUSED_BUFFER', '_REFUSED_OTHER', 'OTHER')):
+                               ('_MOVE = 1', '_MOVE = 3', 'MOVE'), ('_REFUSED_BUFFER', '_REFUSED_OTHER', 'BUFFER'),
+                               ('_REFUSED_BUFFER', '_REFUSED_OTHER', 'OTHER')):
             self.assertIn(old, self.header)
             self.assertIn(name, self.differing(self.header.replace(old, new)))
 
