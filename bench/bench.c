@@ -1,5 +1,5 @@
-/* Times each door and the reader against the twin and against the usual way, on the same inputs, and prints what a call costs and the
-   ratios. A door and its twin have to answer the same: where they do not, this says so and ends with status 1. */
+/* Times each door against its twin and against the usual way, on the same inputs, and prints what a call costs and the ratios. A door and
+   its twin have to answer the same: where they do not, this says so and ends with status 1. */
 #include "twin.h"
 #include "usual.h"
 
@@ -18,6 +18,7 @@ enum { MONOTONIC = 1 }; /* clock_gettime's number for the clock that nobody sets
 #define SECTION 1e6 /* the least nanoseconds between two looks at the clock, unless each is asked for once */
 #define EDGE 5e9 /* the pen's window, in millimetres either way: some points lie in it and some do not */
 #define DIVISOR 1000
+#define TARGET 42195000 /* in millimetres */
 
 /* Inputs */
 
@@ -44,6 +45,8 @@ typedef struct { char bytes[60001]; size_t length; } text;
 static text far_joined, far_parted, near_joined, near_parted, few_points, no_points;
 static int32_t senruhobi_buffer[NUMBERS], twin_buffer[NUMBERS];
 static double usual_buffer[NUMBERS];
+static uint8_t senruhobi_output[SENRUHOBI_MOST_BYTES], twin_output[SENRUHOBI_MOST_BYTES];
+static char usual_output[SENRUHOBI_MOST_BYTES];
 
 /* The points of the joined routes, in ticks and in degrees. */
 static int32_t near_points[NUMBERS], far_points[NUMBERS];
@@ -107,7 +110,7 @@ static char *write_angle(char *to, int32_t angle)
     return to + sprintf(to, "%s%d.%07d", angle < 0 ? "-" : "", size / DEGREE, size % DEGREE);
 }
 
-static void write_route(text *route, int32_t points[][2], int n, const char *parting)
+static void make_text(text *route, int32_t points[][2], int n, const char *parting)
 {
     char *to = route->bytes + sprintf(route->bytes, "route\tpoint\n");
     for (int i = 0; i < n; i++) {
@@ -139,17 +142,17 @@ static void make_routes(void)
         near[i][0] = latitude += between(-STRIDE, STRIDE);
         near[i][1] = longitude += between(-STRIDE, STRIDE);
     }
-    write_route(&far_joined, far, POINTS, "");
-    write_route(&far_parted, far, POINTS, "g\n");
-    write_route(&near_joined, near, POINTS, "");
-    write_route(&near_parted, near, POINTS, "g\n");
-    write_route(&few_points, near, FEW_POINTS, "");
-    write_route(&no_points, near, 0, "");
+    make_text(&far_joined, far, POINTS, "");
+    make_text(&far_parted, far, POINTS, "g\n");
+    make_text(&near_joined, near, POINTS, "");
+    make_text(&near_parted, near, POINTS, "g\n");
+    make_text(&few_points, near, FEW_POINTS, "");
+    make_text(&no_points, near, 0, "");
     make_points(near, near_points, near_degrees);
     make_points(far, far_points, far_degrees);
 }
 
-/* Rounds: a call for each input, or one reading. Each answers the sum of what it was answered, so that no call can be left out. */
+/* Rounds: a call for each input, or one for a route. Each answers the sum of what it was answered, so that no call can be left out. */
 
 static uint64_t bits(double x)
 {
@@ -252,6 +255,27 @@ MEASURE_EXACT(twin, none, 0, 0)
 MEASURE(near)
 MEASURE(far)
 
+/* With a target, and a comma for a mark. */
+#define WRITE_EXACT(way, name, points, numbers)                                                                       \
+    static uint64_t way##_write_##name(void)                                                                          \
+    {                                                                                                                 \
+        senruhobi_written a = way##_write_route(points, numbers, 1, TARGET, 1, way##_output, sizeof way##_output, 0); \
+        return a.refusal + a.bytes;                                                                                   \
+    }
+
+#define WRITE(name, route, numbers)                                                                                     \
+    WRITE_EXACT(senruhobi, name, route##_points, numbers)                                                               \
+    WRITE_EXACT(twin, name, route##_points, numbers)                                                                    \
+    static uint64_t usual_write_##name(void)                                                                            \
+    {                                                                                                                   \
+        usual_written a = usual_write_route(route##_degrees, numbers, 1, TARGET, 1, usual_output, sizeof usual_output); \
+        return (uint64_t)a.refused + a.bytes;                                                                           \
+    }
+
+WRITE(few, near, SENRUHOBI_NUMBERS * FEW_POINTS)
+WRITE(near, near, NUMBERS)
+WRITE(far, far, NUMBERS)
+
 /* Jobs */
 
 /* Beside the three ways: a call that makes a table, if it makes one, and does nothing else; and a reading that only judges the lines. */
@@ -261,6 +285,8 @@ typedef struct {
     const char *name;
     int calls; /* in a round */
     uint64_t (*round[WAYS])(void); /* or none */
+    const void *lent[TWIN + 1]; /* to the door and to its twin, or nothing */
+    size_t lent_bytes; /* to each */
     int rounds[WAYS]; /* in a section */
     double best[WAYS]; /* nanoseconds a call */
     uint64_t sum[WAYS]; /* of one round */
@@ -279,7 +305,8 @@ typedef struct {
         .name = "read_route, " title, .calls = 1,                                                                      \
         .round = {[DOOR] = senruhobi_##route##_round, [TWIN] = twin_##route##_round, [USUALLY] = usual_##route##_round, \
                   [IDLE_DOOR] = senruhobi_no_points_round, [IDLE_TWIN] = twin_no_points_round,                         \
-                  [JUDGING_DOOR] = senruhobi_##route##_judging, [JUDGING_TWIN] = twin_##route##_judging}               \
+                  [JUDGING_DOOR] = senruhobi_##route##_judging, [JUDGING_TWIN] = twin_##route##_judging},              \
+        .lent = {[DOOR] = senruhobi_buffer, [TWIN] = twin_buffer}, .lent_bytes = sizeof twin_buffer                    \
     }
 
 #define MEASURING(name_)                                                                                           \
@@ -289,9 +316,17 @@ typedef struct {
                   [IDLE_DOOR] = senruhobi_measure_none, [IDLE_TWIN] = twin_measure_none}                           \
     }
 
+/* Writing makes no table, so no call is idle. */
+#define WRITING(title, name_)                                                                                      \
+    {                                                                                                              \
+        .name = "write_route, " title, .calls = 1,                                                                 \
+        .round = {[DOOR] = senruhobi_write_##name_, [TWIN] = twin_write_##name_, [USUALLY] = usual_write_##name_}, \
+        .lent = {[DOOR] = senruhobi_output, [TWIN] = twin_output}, .lent_bytes = sizeof twin_output                \
+    }
+
 enum {
     LONG_SINE, SHORT_SINE, CYLINDRICAL, SINUSOIDAL, CYLINDRICAL_BACK, SINUSOIDAL_BACK, LEG, PEN_STEP,
-    MEASURE_NEAR, MEASURE_FAR, READ_FEW, NEAR_JOINED, NEAR_PARTED, FAR_JOINED, FAR_PARTED, JOBS
+    MEASURE_NEAR, MEASURE_FAR, READ_FEW, NEAR_JOINED, NEAR_PARTED, FAR_JOINED, FAR_PARTED, WRITE_FEW, WRITE_NEAR, WRITE_FAR, JOBS
 };
 
 static job jobs[JOBS] = {
@@ -310,6 +345,9 @@ static job jobs[JOBS] = {
     [NEAR_PARTED] = READING("near, parted", near_parted),
     [FAR_JOINED] = READING("far, joined", far_joined),
     [FAR_PARTED] = READING("far, parted", far_parted),
+    [WRITE_FEW] = WRITING("few points", few),
+    [WRITE_NEAR] = WRITING("near", near),
+    [WRITE_FAR] = WRITING("far", far),
 };
 
 static double now(void)
@@ -337,11 +375,12 @@ static void prepare(job *j, double least)
             j->rounds[way] *= 2;
 }
 
-/* The door and its twin have to answer the same, and to leave the same in their buffers. */
+/* The door and its twin have to answer the same, and to leave the same in what was lent to them. */
 static void compare(job *j)
 {
     j->differ |= j->sum[DOOR] != j->sum[TWIN] || j->sum[IDLE_DOOR] != j->sum[IDLE_TWIN] ||
-                 j->sum[JUDGING_DOOR] != j->sum[JUDGING_TWIN] || memcmp(senruhobi_buffer, twin_buffer, sizeof twin_buffer) != 0;
+                 j->sum[JUDGING_DOOR] != j->sum[JUDGING_TWIN] ||
+                 (j->lent_bytes && memcmp(j->lent[DOOR], j->lent[TWIN], j->lent_bytes) != 0);
 }
 
 static void repeat(job *j)
@@ -382,22 +421,38 @@ static void print_leg(const char *name, const job *joined, const job *parted)
     print_row(name, each, 0);
 }
 
+/* The two lines before the first point are let go. */
+static void print_point(const char *name, const job *j)
+{
+    double each[] = {[DOOR] = j->best[DOOR] / POINTS, [TWIN] = j->best[TWIN] / POINTS, [USUALLY] = j->best[USUALLY] / POINTS};
+    print_row(name, each, 0);
+}
+
+static void print_jobs(int from, int end)
+{
+    for (int i = from; i < end; i++)
+        print_row(jobs[i].name, jobs[i].best, jobs[i].best[IDLE_DOOR] - jobs[i].best[IDLE_TWIN]);
+}
+
 static void print_rows(void)
 {
     printf("%-25s %9s %8s %9s %9s %9s %10s %10s %11s\n", "ns a call", "door", "table", "rest", "twin", "usual", "door/twin", "rest/twin",
            "door/usual");
-    for (int i = 0; i < JOBS; i++)
-        print_row(jobs[i].name, jobs[i].best, jobs[i].best[IDLE_DOOR] - jobs[i].best[IDLE_TWIN]);
+    print_jobs(0, WRITE_FEW);
     print_leg("a leg inside it, near", &jobs[NEAR_JOINED], &jobs[NEAR_PARTED]);
     print_leg("a leg inside it, far", &jobs[FAR_JOINED], &jobs[FAR_PARTED]);
+    print_jobs(WRITE_FEW, JOBS);
+    print_point("a point inside it, near", &jobs[WRITE_NEAR]);
+    print_point("a point inside it, far", &jobs[WRITE_FAR]);
     printf("\n"
-           "door    the library's own function; twin: the same rules in plain C; usual: sin, asin, strtod, doubles\n"
-           "table   what a call pays to make the table of sines: an idle call (one refused, or without points) less the twin's\n"
+           "door    the library's own function; twin: the same rules in plain C; usual: sin, asin, strtod, snprintf, doubles\n"
+           "table   what a call pays to make the table of sines, if it makes one: an idle call (refused, or without points) less the twin's\n"
            "rest    door less table; no ratio below a twentieth of the table, where it is mostly noise\n"
            "few     %d points of a walk; near: %d of them; far: %d points from all round the globe\n"
            "joined  a leg into each point but the first; parted: `g` between all points, and no leg\n"
-           "a leg   (joined - parted) / %d, plus the cost of the `g` line that stands in its place in the parted text\n",
-           FEW_POINTS, POINTS, POINTS, POINTS - 1);
+           "a leg   (joined - parted) / %d, plus the cost of the `g` line that stands in its place in the parted text\n"
+           "a point a call of write_route / %d, with the lines before the first point\n",
+           FEW_POINTS, POINTS, POINTS, POINTS - 1, POINTS);
 }
 
 /* The sums of one round each, so that every answer is used. Answers whether a door and its twin differ. */

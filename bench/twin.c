@@ -9,12 +9,13 @@ void *memcpy(void *restrict, const void *restrict, size_t);
 
 enum {
     TEXT = 1, HEADER, LINE, NUMBER, MARK, LATITUDE, LONGITUDE, ORDER, POINTS, ROOM, PLACE, WINDOW, DIVISOR, MERIDIAN,
-    BUFFER = 17
+    OUTPUT, TARGET, BUFFER
 };
 
 enum { ROWS = 4500, STEP = 200000, QUARTER = 900000000, HALF_TURN = 1800000000, SHORTENING = 10000, SHORT_UNIT = 1000000000 };
 enum { DEGREE = 10000000, DEGREE_LENGTH = 111194927 }; /* in ticks, in millimetres */
 enum { MOST_BYTES = 60000, MOST_POINTS = SENRUHOBI_MOST_POINTS, NUMBERS = SENRUHOBI_NUMBERS, MOST_DIVISOR = 1000000 };
+enum { METRE = 1000, KILOMETRE = 1000000, MOST_TARGET = 999999000 }; /* in millimetres */
 
 #define TURN 3600000000
 
@@ -260,6 +261,10 @@ senruhobi_length twin_measure(const int32_t *points, size_t numbers)
 
 /* Route text */
 
+static const char point_header[] = "route\tpoint\n", comma_header[] = "route\tcomma\n";
+
+enum { HEADER_BYTES = sizeof point_header - 1 };
+
 typedef struct { const uint8_t *from, *end; } piece;
 
 /* How a number is written: its mark, the one that it may not have, how many decimals at the most, and whether with a minus. */
@@ -323,7 +328,7 @@ static uint32_t read_target(route *r, piece field)
     if (refusal)
         return refusal;
     r->has_target = 1;
-    r->target = (uint64_t)metres * 1000;
+    r->target = (uint64_t)metres * METRE;
     return 0;
 }
 
@@ -371,19 +376,17 @@ static senruhobi_reading refused(uint32_t refusal, uint32_t line)
 /* The points go into a buffer of our own first: nothing is written to the lent one before the last line is judged. */
 senruhobi_reading twin_read_route(const uint8_t *text, size_t bytes, int32_t *buffer, size_t numbers)
 {
-    static const char point[] = "route\tpoint\n", comma[] = "route\tcomma\n";
-    const size_t header = sizeof point - 1;
     if (bytes > MOST_BYTES)
         return refused(TEXT, 0);
     route r;
     r.before = 0, r.points = 0, r.has_target = 0, r.target = 0;
-    if (bytes >= header && memcmp(text, point, header) == 0)
+    if (bytes >= HEADER_BYTES && memcmp(text, point_header, HEADER_BYTES) == 0)
         r.mark = '.', r.other = ',';
-    else if (bytes >= header && memcmp(text, comma, header) == 0)
+    else if (bytes >= HEADER_BYTES && memcmp(text, comma_header, HEADER_BYTES) == 0)
         r.mark = ',', r.other = '.';
     else
         return refused(HEADER, 1);
-    piece rest = {text + header, text + bytes};
+    piece rest = {text + HEADER_BYTES, text + bytes};
     for (r.line = 2; rest.from < rest.end; r.line++) {
         const uint8_t *lf = find(rest, '\n');
         uint8_t kind = *rest.from;
@@ -399,6 +402,102 @@ senruhobi_reading twin_read_route(const uint8_t *text, size_t bytes, int32_t *bu
         return refused(ROOM, 0);
     memcpy(buffer, r.buffer, NUMBERS * r.points * sizeof *buffer);
     return (senruhobi_reading){.points = r.points, .has_target = r.has_target, .length = measure(r.buffer, r.points), .target = r.target};
+}
+
+/* Writing a route */
+
+enum { DECIMALS = 7, PARTS = 10000000 };
+
+/* A number as it is written: at most three digits before the mark, and ten-millionths behind it. */
+typedef struct { uint32_t minus, whole, parts; } decimal;
+
+static decimal degrees(int32_t angle)
+{
+    return (decimal){angle < 0, size(angle) / DEGREE, size(angle) % DEGREE};
+}
+
+static decimal kilometres(uint64_t target)
+{
+    return (decimal){0, (uint32_t)(target / KILOMETRE), (uint32_t)(target % KILOMETRE) * (PARTS / KILOMETRE)};
+}
+
+/* Of a tab and the number behind it. */
+static size_t field_bytes(decimal z)
+{
+    size_t bytes = 2 + z.minus + (z.whole >= 10) + (z.whole >= 100);
+    if (z.parts == 0)
+        return bytes;
+    bytes += 1 + DECIMALS;
+    for (uint32_t rest = z.parts; rest % 10 == 0; rest /= 10)
+        bytes--;
+    return bytes;
+}
+
+/* Decimals are written until nothing is left, so the last is no zero. */
+static uint8_t *write_field(uint8_t *to, decimal z, uint8_t mark)
+{
+    *to++ = '\t';
+    if (z.minus)
+        *to++ = '-';
+    if (z.whole >= 100)
+        *to++ = (uint8_t)('0' + z.whole / 100);
+    if (z.whole >= 10)
+        *to++ = (uint8_t)('0' + z.whole / 10 % 10);
+    *to++ = (uint8_t)('0' + z.whole % 10);
+    if (z.parts)
+        *to++ = mark;
+    for (uint32_t rest = z.parts; rest; rest = rest * 10 % PARTS)
+        *to++ = (uint8_t)('0' + rest * 10 / PARTS);
+    return to;
+}
+
+/* Beside its fields a line has its kind and LF. */
+static size_t route_bytes(const int32_t *points, size_t numbers, uint32_t has_target, uint64_t target)
+{
+    size_t bytes = HEADER_BYTES;
+    if (has_target)
+        bytes += 2 + field_bytes(kilometres(target));
+    for (size_t i = 0; i < numbers; i += NUMBERS)
+        bytes += (i && points[i + 2] ? 4 : 2) + field_bytes(degrees(points[i])) + field_bytes(degrees(points[i + 1]));
+    return bytes;
+}
+
+static void write_route(uint8_t *to, const int32_t *points, size_t numbers, uint32_t has_target, uint64_t target, uint32_t comma)
+{
+    uint8_t mark = comma ? ',' : '.';
+    memcpy(to, comma ? comma_header : point_header, HEADER_BYTES);
+    to += HEADER_BYTES;
+    if (has_target) {
+        *to++ = 't';
+        to = write_field(to, kilometres(target), mark);
+        *to++ = '\n';
+    }
+    for (size_t i = 0; i < numbers; i += NUMBERS) {
+        if (i && points[i + 2]) {
+            *to++ = 'g';
+            *to++ = '\n';
+        }
+        *to++ = 'p';
+        to = write_field(to, degrees(points[i]), mark);
+        to = write_field(to, degrees(points[i + 1]), mark);
+        *to++ = '\n';
+    }
+}
+
+/* The text is counted first: nothing is written to an output without room for all of it. */
+senruhobi_written twin_write_route(const int32_t *points, size_t numbers, uint32_t has_target, uint64_t target, uint32_t comma,
+                                   uint8_t *out, size_t bytes, size_t place)
+{
+    uint32_t refusal = buffer_refusal(points, numbers);
+    if (!refusal && has_target && (target % METRE || target > MOST_TARGET))
+        refusal = TARGET;
+    if (refusal)
+        return (senruhobi_written){.refusal = refusal};
+    size_t length = route_bytes(points, numbers, has_target, target);
+    if (place > bytes || bytes - place < length)
+        return (senruhobi_written){.refusal = OUTPUT};
+    write_route(out + place, points, numbers, has_target, target, comma);
+    return (senruhobi_written){.bytes = length};
 }
 
 /* The pen */

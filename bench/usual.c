@@ -1,5 +1,6 @@
-/* The usual floating-point way: sin, cos, asin and sqrt of the C library, the haversine, numbers read by strtod. Ranges are checked, and
-   nothing else that the document asks: answers are near, not exact, and a text may be read that should be refused. */
+/* The usual floating-point way: sin, cos, asin and sqrt of the C library, the haversine, numbers read by strtod and written by snprintf.
+   Ranges are checked, and nothing else that the document asks: answers are near, not exact, a text may be read that should be refused, and
+   an output may be half written when its room ends. */
 #include "usual.h"
 
 double asin(double);
@@ -7,6 +8,8 @@ double cos(double);
 double sin(double);
 double sqrt(double);
 double strtod(const char *restrict, char **restrict);
+int snprintf(char *restrict, size_t, const char *restrict, ...);
+char *strchr(const char *, int);
 int strncmp(const char *, const char *, size_t);
 
 #define RADIUS 6371000000.0 /* millimetres */
@@ -138,6 +141,42 @@ usual_reading usual_read_route(const char *text, double *buffer, size_t numbers)
         joined = *line == 'p';
     }
     return r;
+}
+
+/* Without the zeros at the end. */
+static void write_number(char *to, size_t room, int decimals, double value, int comma)
+{
+    char *end = to + snprintf(to, room, "%.*f", decimals, value);
+    while (end[-1] == '0')
+        end--;
+    if (end[-1] == '.')
+        end--;
+    *end = 0;
+    char *mark = comma ? strchr(to, '.') : 0;
+    if (mark)
+        *mark = ',';
+}
+
+/* Line by line, each into the room that is left, with a zero byte at the end. */
+usual_written usual_write_route(const double *points, size_t numbers, int has_target, double target, int comma, char *out, size_t bytes)
+{
+    const usual_written refused = {.refused = 1};
+    char first[32], second[32];
+    if (numbers % SENRUHOBI_NUMBERS || (has_target && !(0 <= target && target < 1e9)))
+        return refused;
+    size_t at = (size_t)snprintf(out, bytes, "route\t%s\n", comma ? "comma" : "point");
+    if (has_target && at < bytes) {
+        write_number(first, sizeof first, 3, target / 1e6, comma);
+        at += (size_t)snprintf(out + at, bytes - at, "t\t%s\n", first);
+    }
+    for (size_t i = 0; i < numbers && at < bytes; i += SENRUHOBI_NUMBERS) {
+        if (!is_point(points[i], points[i + 1]))
+            return refused;
+        write_number(first, sizeof first, 7, points[i], comma);
+        write_number(second, sizeof second, 7, points[i + 1], comma);
+        at += (size_t)snprintf(out + at, bytes - at, "%sp\t%s\t%s\n", i && points[i + 2] != 0 ? "g\n" : "", first, second);
+    }
+    return at < bytes ? (usual_written){.bytes = at} : refused;
 }
 
 usual_step usual_pen_step(int pen, double left, double right, double bottom, double top,

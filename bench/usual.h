@@ -7,6 +7,7 @@ typedef struct { int refused; double value; } usual_number;
 typedef struct { int refused; double x, y; } usual_place;
 typedef struct { int refused; double latitude, longitude; } usual_point;
 typedef struct { int refused, points, has_target; double length, target; } usual_reading;
+typedef struct { int refused; size_t bytes; } usual_written;
 typedef struct { int refused, stroke; double x, y; int pen; } usual_step;
 
 usual_number usual_sine(double angle);
@@ -17,6 +18,7 @@ usual_point usual_sinusoidal_back(double x, double y, double meridian);
 usual_number usual_leg(double latitude1, double longitude1, double latitude2, double longitude2);
 usual_number usual_measure(const double *points, size_t numbers);
 usual_reading usual_read_route(const char *text, double *buffer, size_t numbers);
+usual_written usual_write_route(const double *points, size_t numbers, int has_target, double target, int comma, char *out, size_t bytes);
 usual_step usual_pen_step(int pen, double left, double right, double bottom, double top,
                           double divisor, double meridian, double latitude, double longitude, int third);
 #endif

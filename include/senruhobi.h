@@ -26,8 +26,9 @@
  * Threads: the library has no data that is written to and calls nothing but memcpy and memset, so every door may be called from any thread
  * at any time, with buffers that no other thread writes to meanwhile.
  * Stack: a call takes some 37 KB, a reading some 49 KB. Nothing is allocated.
- * Pointers: a text may lie at any address, numbers lie as int32_t does, at a multiple of 4. A text and the buffer lent beside it must not
- * overlap. With a count of 0 a pointer is not looked at and may be null; with any other it points to at least so many.
+ * Pointers: a text and an output may lie at any address, numbers lie as int32_t does, at a multiple of 4. A text and the buffer lent beside
+ * it must not overlap, nor a point buffer and an output. With a count of 0 a pointer is not looked at and may be null; with any other it
+ * points to at least so many.
  */
 #ifndef SENRUHOBI_H
 #define SENRUHOBI_H
@@ -56,6 +57,8 @@ typedef enum {
     SENRUHOBI_REFUSED_WINDOW = 12, /* an edge of the window is NaN, left is not below right, or bottom is not below top */
     SENRUHOBI_REFUSED_DIVISOR = 13, /* divisor outside 1 to 1,000,000 */
     SENRUHOBI_REFUSED_MERIDIAN = 14, /* central meridian out of range */
+    SENRUHOBI_REFUSED_OUTPUT = 15, /* the output from the place on is too short for the text; a place past its end leaves no room */
+    SENRUHOBI_REFUSED_TARGET = 16, /* a target that is not a whole number of metres, or above 999,999,000 mm */
     SENRUHOBI_REFUSED_BUFFER = 17 /* a point buffer that is no multiple of three, a third number other than 0 or 1, or a first one of 0 */
 } senruhobi_refusal;
 
@@ -74,6 +77,7 @@ typedef struct { uint32_t refusal; int64_t x, y; } senruhobi_place;
 typedef struct { uint32_t refusal; int32_t latitude, longitude; } senruhobi_point;
 typedef struct { uint32_t refusal; uint64_t millimetres; } senruhobi_length;
 typedef struct { uint32_t refusal, line, points, has_target; uint64_t length, target; } senruhobi_reading;
+typedef struct { uint32_t refusal; uint64_t bytes; } senruhobi_written;
 typedef struct { uint32_t refusal, stroke; double x, y; uint32_t pen /* 0 up, 1 down */; } senruhobi_step;
 
 /* 10^13 times the sine of an angle from -90 to 90 degrees, and 10^9 times it. Refusal: 6. */
@@ -98,6 +102,13 @@ senruhobi_length senruhobi_measure(const int32_t *points, size_t numbers);
 /* Reads a route's text. Of an accepted one the buffer begins with the numbers of its points, the third 1 for the first point and after
  * `g`, else 0; its other numbers stay as they were. Refusals: 1 to 10, with the line. */
 senruhobi_reading senruhobi_read_route(const uint8_t *text, size_t bytes, int32_t *buffer, size_t numbers);
+
+/* Writes a route's text into `out`, which has `bytes` bytes, from `place` onward, and answers how many bytes the text has; all others stay as
+ * they were. SENRUHOBI_MOST_BYTES from the place on are room for every route. `numbers` is the whole point buffer's. In `has_target` 0 means
+ * no target, and the number beside it is not looked at; in `comma` 0 means the point, any other number the comma. Each number is written one
+ * way, the shortest, and reading the text gives back points, target and length. Refusals: 17, 9, then 6 and 7 point by point, 16, 15. */
+senruhobi_written senruhobi_write_route(const int32_t *points, size_t numbers, uint32_t has_target, uint64_t target, uint32_t comma,
+                                        uint8_t *out, size_t bytes, size_t place);
 
 /* What a pen (0 up, any other number down) draws at a point on the sinusoidal sheet. The window's edges are in millimetres on the sheet
  * and may be infinite, the divisor is in millimetres a pixel, third is the point's third number in a route's buffer. x and y are the

@@ -5,8 +5,8 @@ import math
 
 import model
 import texts
-from figures import (DOWN, GREATEST, GREATEST_64, HERE, INF, LATITUDE, LEAST, LEAST_64, LONGITUDE, NO_LATITUDES, NO_LONGITUDES, NO_THIRDS,
-                     PENS, THIRD, X, Y, above, below, changed, route, step)
+from figures import (DOWN, GREATEST, GREATEST_64, HERE, INF, KILOMETRES, LATITUDE, LEAST, LEAST_64, LONGITUDE, NO_LATITUDES, NO_LONGITUDES,
+                     NO_TARGETS, NO_THIRDS, PENS, THIRD, X, Y, YES, above, below, changed, route, step)
 from model import HALF_TURN, NUMBERS, QUARTER, STEP
 
 LATITUDES = [LEAST, -QUARTER - 1, -QUARTER, -QUARTER + 1, -600_000_000, -1, 0, 1, STEP, QUARTER - 1, QUARTER, QUARTER + 1, GREATEST]
@@ -79,6 +79,25 @@ def row(k):
         yield 'leg', 0, -half, 0, half
 
 
+def writings():
+    """Points and targets at the limits, numbers with every count of digits before and behind the mark, and every room and place about a text."""
+    for comma, point in itertools.product((0, 1), itertools.product(LATITUDES, LONGITUDES)):
+        yield 'write_route', (*point, 1), 0, 0, comma, output_for(1), 0
+    sizes = {digits * 10**k for digits in (1, 9, 11, 99, 101, 1_001, 123_456_789) for k in range(10)}
+    for comma, sign, size in itertools.product((0, 1), (1, -1), sorted(sizes)):
+        yield 'write_route', (fitting(sign * size), fitting(-sign * size), 1), 0, 0, comma, output_for(1), 0
+    for metres in sorted({*range(1_100), *range(0, 10**6, 997)}):
+        yield 'write_route', (), 1, model.METRE * metres, metres % 2, output_for(0), 0
+    for has_target, target, comma in itertools.product((0, 1, 2**32 - 1), [*KILOMETRES, *NO_TARGETS], (0, 1, 2**32 - 1)):
+        yield 'write_route', (), has_target, target, comma, output_for(0), 0
+    for thirds in itertools.product((0, 1), repeat=5):
+        yield 'write_route', tuple(number for third in thirds for number in (*HERE, third)), 0, 0, 0, output_for(5), 0
+    two = (-1, HALF_TURN - 1, 1, 0, 0, 1)
+    text = model.route_text(model.points_of(two), 0, comma=1)
+    for room, place in itertools.product(range(len(text) + 3), repeat=2):
+        yield 'write_route', two, 1, 0, 1, room, place
+
+
 def every_byte():
     """Every value of a byte at every place of a text, between two bytes and instead of one: so at both ends and inside each field and line."""
     for text in (route('point', 't 1.5', 'p -2.5 34', 'g', 'p 4 5'), route('comma', 't 1,5', 'p -2,5 34', 'g', 'p 4 5')):
@@ -89,6 +108,11 @@ def every_byte():
 def room_for(points):
     """The numbers of so many points, or of one more than a route may have."""
     return min(NUMBERS * points, TOO_MUCH_ROOM)
+
+
+def output_for(points):
+    """The bytes that so many points may need: 22 for line 1 and a target, 29 for a point and the `g` before it."""
+    return 22 + 29 * points
 
 
 def files(folder):
@@ -110,11 +134,12 @@ def fitting(number):
 
 
 def ticks(some, limit):
-    """An angle, mostly of at most this size, and often near zero, near the limit or near an entry of the table."""
+    """An angle, mostly of at most this size, and often near zero, near the limit, near an entry of the table or with few decimals."""
     if some.random() < 0.04:
         return some.choice([LEAST, LEAST + 1, GREATEST, some.randint(LEAST, GREATEST)])
+    tens = 10**some.randrange(1, 9)
     size = some.choice([some.randint(0, limit), some.randint(0, limit), small(some), limit - abs(small(some)), limit + some.randint(-2, 2),
-                        STEP * some.randrange(limit // STEP) + some.randint(-1, 1)])
+                        STEP * some.randrange(limit // STEP) + some.randint(-1, 1), some.randint(0, limit) // tens * tens])
     return fitting(some.choice([size, -size]))
 
 
@@ -251,12 +276,38 @@ BUFFER_CHANGES = [lambda some, numbers: numbers, another_count, another({THIRD: 
                   another({LATITUDE: NO_LATITUDES, LONGITUDE: NO_LONGITUDES})]
 
 
-def random_measures(some, count):
+def random_buffers(some, count):
     """So many point buffers. The changes take turns, so that each refusal comes up."""
     turns = itertools.cycle(BUFFER_CHANGES)
     for change in itertools.islice(turns, count):
         numbers = change(some, good_buffer(some, some.choice([0, 1, 2, 3, 5, 8])))
-        yield 'measure', numbers if some.random() < 0.5 else some.choice(BUFFER_CHANGES)(some, numbers)
+        yield numbers if some.random() < 0.5 else some.choice(BUFFER_CHANGES)(some, numbers)
+
+
+def random_measures(some, count):
+    return (('measure', numbers) for numbers in random_buffers(some, count))
+
+
+def random_flag(some):
+    return some.choice([0, 1, some.choice(YES)])
+
+
+def random_target(some):
+    """A whole number of metres that is allowed, often the greatest, or one that is not."""
+    return some.choice([model.METRE * some.randrange(10**some.randrange(7)), some.choice([*KILOMETRES]), model.MOST_TARGET,
+                        model.MOST_TARGET + model.METRE, some.choice(NO_TARGETS), some.randrange(2**64)])
+
+
+def random_writings(some, count):
+    """Writings of so many point buffers: the accepted ones into too little room, as much as they need, and too much; and from past the end."""
+    for numbers in random_buffers(some, count):
+        route, most = (numbers, random_flag(some), random_target(some), random_flag(some)), output_for(len(numbers) // NUMBERS)
+        refusal, need = model.write_door(*route, bytearray(most), 0)
+        rooms = {some.choice([0, most])} if refusal else {some.randrange(need), need - 1, need, need + some.randint(1, 9)}
+        for room in sorted(rooms):
+            place = some.choice([0, some.randrange(99)])
+            yield ('write_route', *route, place + room, place)
+        yield ('write_route', *route, most, some.choice([most, most + 1, 2**32, 2**64 - 1, some.randrange(most, 2**64)]))
 
 
 def random_readings(some, count):

@@ -3,14 +3,17 @@
 
    "read_route ROOM :TEXT" lends a buffer of ROOM numbers; TEXT is in hex digits. Behind the fields of the answer stand 1, or 0 where
    anything but the buffer was changed, and then all the numbers of the buffer. "measure COUNT NUMBER .." lends COUNT numbers; behind the
-   fields stands 1, or 0 where a number was changed, of these or around them. A text of no bytes and a buffer of no numbers are NULL.
+   fields stands 1, or 0 where a number was changed, of these or around them. "write_route COUNT NUMBER .. HAS_TARGET TARGET COMMA ROOM FROM"
+   lends COUNT numbers and an output of ROOM bytes, to be written to from FROM on. Behind the fields stand 1, or 0 where anything but the
+   output was changed, and then :OUTPUT in hex digits. A text or an output of no bytes and a buffer of no numbers are NULL.
 
-   Before these two may stand "at PLACE": where in their memory text and buffer lie, counted in bytes and in numbers. At 0 the first byte or
-   number is the first of the memory, at 1 the second; at -1 the last one is the last of the memory, at -2 the last but one. What lies before
-   and behind the memory may not be read. A text or a buffer of none is then not NULL: it points to its place.
+   Before these three may stand "at PLACE": where in their memory text, buffer and output lie, counted in bytes and in numbers. At 0 the first
+   byte or number is the first of the memory, at 1 the second; at -1 the last one is the last of the memory, at -2 the last but one. What lies
+   before and behind the memory may not be read. A text, a buffer or an output of none is then not NULL: it points to its place.
 
-   Or "far COUNT": the buffer is said to have COUNT numbers, and what is more than its memory holds may not be read. "far_text COUNT" reads
-   a text of COUNT bytes, none of which may be read, into no buffer.
+   Or "far COUNT": the buffer is said to have COUNT numbers, or the output COUNT bytes, and what is more than its memory holds may not be
+   read. "far_text COUNT" reads a text of COUNT bytes, none of which may be read, into no buffer; "far_points COUNT" writes a buffer of COUNT
+   such numbers into no output.
 
    A door that reads or writes where it may not ends the driver, and so does memory that cannot be had; the driver then says so.
 
@@ -34,11 +37,13 @@ enum { PROT_NONE = 0, PROT_READ = 1, PROT_WRITE = 2, MAP_PRIVATE = 0x2, MAP_ANON
 
 /* What is protected at a time: a page or several, as pages have 4, 16 or 64 KiB. */
 enum { BLOCK = 65536 };
-/* The memory for a text, in bytes, and for a buffer, in numbers; and where they lie in it unless something else is said. */
-enum { TEXTS = 4 * BLOCK, NUMBERS = BLOCK / sizeof(int32_t), MIDDLE = 4096 };
-static uint8_t *texts;
+/* The memory for a text, in bytes, for a buffer, in numbers, and for an output, in bytes; and where they lie in it unless something else is said. */
+enum { TEXTS = 4 * BLOCK, NUMBERS = BLOCK / sizeof(int32_t), OUTPUTS = BLOCK, MIDDLE = 4096 };
+static uint8_t *texts, *outputs;
 static int32_t *numbers;
-static int32_t *lent; /* the buffer, inside that memory, of which the rest has to stay as it is */
+/* the buffer and the output, inside that memory, of which the rest has to stay as it is */
+static int32_t *lent;
+static uint8_t *out;
 
 /* Memory with a block before it and so many bytes behind it that may not be read. */
 static void *memory(size_t bytes, size_t behind)
@@ -50,6 +55,15 @@ static void *memory(size_t bytes, size_t behind)
         dprintf(2, "no address space of %lu bytes\n", all);
         exit(1);
     }
+    return found;
+}
+
+/* A block with 2^32 numbers behind it, and as many as fit into a block, that may not be read. */
+static void *far(void)
+{
+    static void *found;
+    if (!found)
+        found = memory(BLOCK, ((size_t)1 << 34) + BLOCK);
     return found;
 }
 
@@ -69,6 +83,8 @@ static void *pointer(void *begin, size_t units, long place) { return units || pl
 
 /* What stands at each place before a call: out of range, so that no reader writes it, and nowhere the same. */
 static int32_t filling(long place) { return -2000000000 - place; }
+/* In an output: no byte of a text, so that no writer writes it, and not the same side by side. */
+static uint8_t byte_filling(long place) { return 128 | (place & 127); }
 
 static void fill(size_t room, long place)
 {
@@ -84,6 +100,23 @@ static int guarded(size_t room)
         kept &= *n == filling(n - lent);
     for (int32_t *n = lent + room; n < numbers + NUMBERS; n++)
         kept &= *n == filling(n - lent);
+    return kept;
+}
+
+static void fill_output(size_t room, long place)
+{
+    out = outputs + begin_of(room, place, OUTPUTS);
+    for (uint8_t *b = outputs; b < outputs + OUTPUTS; b++)
+        *b = byte_filling(b - out);
+}
+
+static int output_guarded(size_t room)
+{
+    int kept = 1;
+    for (uint8_t *b = outputs; b < out; b++)
+        kept &= *b == byte_filling(b - out);
+    for (uint8_t *b = out + room; b < outputs + OUTPUTS; b++)
+        kept &= *b == byte_filling(b - out);
     return kept;
 }
 
@@ -110,9 +143,10 @@ static void say_sine(senruhobi_sine r) { printf("%u %ld", r.refusal, r.value); }
 static void say_place(senruhobi_place r) { printf("%u %ld %ld", r.refusal, r.x, r.y); }
 static void say_point(senruhobi_point r) { printf("%u %d %d", r.refusal, r.latitude, r.longitude); }
 static void say_length(senruhobi_length r) { printf("%u %lu", r.refusal, r.millimetres); }
+static void say_written(senruhobi_written r) { printf("%u %lu", r.refusal, r.bytes); }
 static void say_reading(senruhobi_reading r) { printf("%u %u %u %u %lu %lu", r.refusal, r.line, r.points, r.has_target, r.length, r.target); }
 
-/* The count of a buffer is its room unless it is said to be far. */
+/* The count of a buffer or an output is its room unless it is said to be far. */
 
 static void read_route(size_t room, size_t count, long place, const char *hex)
 {
@@ -123,26 +157,54 @@ static void read_route(size_t room, size_t count, long place, const char *hex)
     if (text + bytes < texts + TEXTS)
         text[bytes] = '\n'; /* a reader that goes on behind the text would take its last line for ended */
     fill(room, place);
-    say_reading(senruhobi_read_route(pointer(text, bytes, place), bytes, pointer(lent, room, place), count));
+    say_reading(senruhobi_read_route(pointer(text, bytes, place), bytes, pointer(lent, room, place), count ? count : room));
     printf(" %d", guarded(room) && same(text, hex, bytes));
     for (size_t k = 0; k < room; k++)
         printf(" %d", lent[k]);
 }
 
-static void measure(size_t room, size_t count, long place)
+static int32_t given[NUMBERS];
+
+/* Lends a buffer of so many numbers, those of the line. */
+static void lend(size_t room, long place)
 {
-    static int32_t given[NUMBERS];
     fill(room, place);
     for (size_t k = 0; k < room; k++) {
         if (scanf("%d", given + k) != 1)
             exit(1);
         lent[k] = given[k];
     }
-    say_length(senruhobi_measure(pointer(lent, room, place), count));
+}
+
+static int unchanged(size_t room)
+{
     int kept = guarded(room);
     for (size_t k = 0; k < room; k++)
         kept &= lent[k] == given[k];
-    printf(" %d", kept);
+    return kept;
+}
+
+static void measure(size_t room, size_t count, long place)
+{
+    lend(room, place);
+    say_length(senruhobi_measure(pointer(lent, room, place), count ? count : room));
+    printf(" %d", unchanged(room));
+}
+
+static void write_route(size_t many, size_t count, long place)
+{
+    uint32_t has_target, comma;
+    uint64_t target;
+    size_t room, from;
+    lend(many, place);
+    if (scanf("%u%lu%u%lu%lu", &has_target, &target, &comma, &room, &from) != 5)
+        exit(1);
+    fill_output(room, place);
+    say_written(senruhobi_write_route(pointer(lent, many, place), many, has_target, target, comma,
+                                      pointer(out, room, place), count ? count : room, from));
+    printf(" %d :", unchanged(many) && output_guarded(room));
+    for (size_t k = 0; k < room; k++)
+        printf("%02x", out[k]);
 }
 
 static char door[32];
@@ -165,21 +227,17 @@ int main(void)
     char *text;
     signal(SIGSEGV, trespassed);
     texts = memory(TEXTS, BLOCK);
-    int32_t *const near = memory(BLOCK, BLOCK), *far = 0;
+    int32_t *const near_numbers = memory(BLOCK, BLOCK);
+    uint8_t *const near_outputs = memory(BLOCK, BLOCK);
     for (line = 1; scanf("%31s", door) == 1; line++) {
         long place = MIDDLE;
         size_t room, count = 0;
         if (is("at") && scanf("%ld%31s", &place, door) != 2)
             return 1;
-        numbers = near;
-        if (is("far") || is("far_text")) {
-            /* 2^32 numbers and as many as fit into a block */
-            if (!far)
-                far = memory(BLOCK, ((size_t)1 << 34) + BLOCK);
-            numbers = far;
-        }
         if (is("far") && scanf("%lu%31s", &count, door) != 2)
             return 1;
+        numbers = count && !is("write_route") ? far() : near_numbers;
+        outputs = count && is("write_route") ? far() : near_outputs;
         if (is("long_sine") && scanf("%d", &a) == 1)
             say_sine(senruhobi_long_sine(a));
         else if (is("short_sine") && scanf("%d", &a) == 1)
@@ -198,12 +256,16 @@ int main(void)
                                          &a, &b, &c, &d) == 10)
             say_step(senruhobi_pen_step(pen, left.value, right.value, bottom.value, top.value, divisor, a, b, c, d));
         else if (is("measure") && scanf("%lu", &room) == 1)
-            measure(room, count ? count : room, place);
+            measure(room, count, place);
+        else if (is("write_route") && scanf("%lu", &room) == 1)
+            write_route(room, count, place);
         else if (is("read_route") && scanf("%lu%ms", &room, &text) == 2) {
-            read_route(room, count ? count : room, place, text + 1);
+            read_route(room, count, place, text + 1);
             free(text);
         } else if (is("far_text") && scanf("%lu", &count) == 1)
-            say_reading(senruhobi_read_route((uint8_t *)(far + NUMBERS), count, 0, 0));
+            say_reading(senruhobi_read_route((uint8_t *)far() + BLOCK, count, 0, 0));
+        else if (is("far_points") && scanf("%lu", &count) == 1)
+            say_written(senruhobi_write_route((int32_t *)far() + NUMBERS, count, 0, 0, 0, 0, 0, 0));
         else
             return 1;
         printf("\n");

@@ -55,6 +55,11 @@ def lent(room):
     return [-2_000_000_000 - place for place in range(room)]
 
 
+def lent_output(room):
+    """What an output of so many bytes holds when the driver lends it."""
+    return bytearray(128 | place % 128 for place in range(room))
+
+
 def answers(calls, program=None):
     """The line that the driver answers to each call: a door's name and its arguments."""
     given = ''.join(line_of(call) + '\n' for call in calls)

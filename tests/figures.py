@@ -13,8 +13,9 @@ INF = math.inf
 LARGEST = sys.float_info.max
 NANS = [math.nan, -math.nan, *struct.unpack('>d', bytes.fromhex('7ff0000000000001'))]  # the last one signals
 UP, DOWN = 0, 1
-# every number but 0 is down, whatever its low 8, 16 or 31 bits are
-PENS = [UP, DOWN, 2, 255, 256, 257, 2**15, 2**16, 2**16 + 1, 2**31 - 1, 2**31, 2**32 - 256, 2**32 - 1]
+# every number but 0 says yes, whatever its low 8, 16 or 31 bits are: down, that there is a target, the comma
+YES = [1, 2, 255, 256, 257, 2**15, 2**16, 2**16 + 1, 2**31 - 1, 2**31, 2**32 - 256, 2**32 - 1]
+PENS = [UP, *YES]
 
 SINES = {
     # "entry 0 is 0, entry 1 is 3,490,658,433, entry 1500 is 5×10^12, entry 4500 is 10^13"
@@ -314,4 +315,92 @@ def buffers():
 
 # behind the fields stands 1, as nothing changes
 MEASURES = [(('measure', numbers), (number, length, 1)) for numbers, number, length in buffers()]
-FIGURES = [*SINES.items(), *SHEETS.items(), *BACK.items(), *BOTH_WAYS.items(), *STEPS, *orders(), *MEASURES, *readings()]
+
+# "Each number is written one way: no leading zeros but a lone 0, no decimals that end in zero, no bare mark, no minus on zero."
+DEGREES = {
+    0: '0', 1: '0.0000001', -1: '-0.0000001', 10: '0.000001', 100: '0.00001', 1_000: '0.0001', 10_000: '0.001', 100_000: '0.01',
+    1_000_000: '0.1', 10_000_000: '1', 100_000_000: '10', 9: '0.0000009', -99: '-0.0000099', 5_000_000: '0.5', -5_000_000: '-0.5',
+    9_999_999: '0.9999999', 10_000_001: '1.0000001', -15_000_000: '-1.5', 12_345_678: '1.2345678', 99_999_999: '9.9999999',
+    102_030_400: '10.20304', -200_000_010: '-20.000001', 457_600_000: '45.76', 600_100_000: '60.01', 700_000_000: '70',
+    899_999_999: '89.9999999', -899_999_999: '-89.9999999', 899_999_990: '89.999999', 900_000_000: '90', -900_000_000: '-90',
+}
+FAR_DEGREES = {  # of a longitude alone
+    900_000_001: '90.0000001', 999_999_999: '99.9999999', 1_000_000_000: '100', -1_000_000_001: '-100.0000001', 1_010_000_000: '101',
+    1_234_567_890: '123.456789', -1_500_500_000: '-150.05', 1_799_999_999: '179.9999999', -1_799_999_999: '-179.9999999',
+    1_790_000_000: '179', -1_800_000_000: '-180',
+}
+KILOMETRES = {
+    0: '0', 1_000: '0.001', 10_000: '0.01', 100_000: '0.1', 1_000_000: '1', 10_000_000: '10', 100_000_000: '100', 2_500_000: '2.5',
+    9_000: '0.009', 99_000: '0.099', 999_000: '0.999', 101_000: '0.101', 120_000: '0.12', 1_001_000: '1.001', 42_195_000: '42.195',
+    100_010_000: '100.01', 120_000_000: '120', 987_600_000: '987.6', 999_000_000: '999', 999_999_000: '999.999',
+}
+NO_TARGETS = [1, 999, 1_001, 999_998_999, 999_999_001, 999_999_999, 1_000_000_000, 2**32, 1_000 * 2**32, 2**63, 2**64 - 616, 2**64 - 1]
+LONGEST_LINE = 'p -89.9999999 -179.9999999'
+# the numbers of each route, its target if any, and its lines under the point
+WRITTEN = [
+    ((), None, []), *(((), target, [f't {kilometres}']) for target, kilometres in KILOMETRES.items()),
+    *(((angle, angle, 1), None, [f'p {degrees} {degrees}']) for angle, degrees in DEGREES.items()),
+    *(((0, angle, 1), 2_500_000, ['t 2.5', f'p 0 {degrees}']) for angle, degrees in FAR_DEGREES.items()),
+    # "A `g` line precedes every point after the first whose third number is 1."
+    *((changed(THERE_AND_BACK, (1, THIRD, first), (2, THIRD, second)), 0, ['t 0', 'p 0 0', *first * ['g'], 'p 0 90', *second * ['g'], 'p 0 0'])
+      for first, second in itertools.product((0, 1), repeat=2)),
+    ((900_000_000, -1_800_000_000, 1, -1, 50_000_000, 1), 1_000_000, ['t 1', 'p 90 -180', 'g', 'p -0.0000001 5']),
+    # the most points, in the shortest lines and in the longest
+    ((0, 0, 1, *999 * (0, 0, 0)), None, THOUSAND),
+    (1000 * (-899_999_999, -1_799_999_999, 1), 999_999_000, ['t 999.999', LONGEST_LINE, *999 * ['g', LONGEST_LINE]]),
+]
+
+
+def writing(numbers, target, comma, room, place):
+    """A call of the writer. Where there is no target, a number that would be refused stands for it."""
+    return ('write_route', numbers, *((0, NO_TARGETS[-1]) if target is None else (1, target)), comma, room, place)
+
+
+def text_written(text, room, place):
+    """Its answer. Behind the fields stand 1, as nothing but the output changes, and the output: "nothing before or after them changing"."""
+    output = doors.lent_output(room)
+    output[place:place + len(text)] = text
+    return 0, len(text), 1, bytes(output)
+
+
+def nothing_written(number, room):
+    return number, 0, 1, bytes(doors.lent_output(room))
+
+
+def writings():
+    """The routes with either mark, into outputs of several sizes and from several places on; then what else decides, and the refusals."""
+    for (numbers, target, lines), (comma, mark, name) in itertools.product(WRITTEN, ((0, '.', 'point'), (1, ',', 'comma'))):
+        text = route(name, *(words.replace('.', mark) for words in lines))
+        size = len(text)
+        for room, place in ((size, 0), (size + 1, 0), (size + 7, 7), (size + 70, 64)):
+            yield writing(numbers, target, comma, room, place), text_written(text, room, place)
+        # "15 the output from that place on is too short (a place past its end leaves none)"; a place and a size may pass 64 bits
+        for room, place in ((0, 0), (size - 1, 0), (size, 1), (size + 6, 7), (size, size - 1), (size, size), (size, size + 1), (size, 2**32),
+                            (size, 2**63), (size, 2**64 - size), (size, 2**64 - 1)):
+            yield writing(numbers, target, comma, room, place), nothing_written(15, room)
+    # every number but 0 says yes; without a target its number is not looked at
+    for yes in YES:
+        yield ('write_route', (), 0, 0, yes, 12, 0), text_written(route('comma'), 12, 0)
+        yield ('write_route', (), yes, 0, 0, 16, 0), text_written(route('point', 't 0'), 16, 0)
+    for target in (0, 1_000, *NO_TARGETS):
+        yield ('write_route', (), 0, target, 0, 12, 0), text_written(route('point'), 12, 0)
+    # "16 target not a whole number of metres or above 999,999,000 mm"
+    for target, yes in itertools.product(NO_TARGETS, YES):
+        yield ('write_route', (), yes, target, 0, 40, 0), nothing_written(16, 40)
+    # "order 17, 9, 6 and 7 by point, 16, 15"
+    for numbers, number, _ in buffers():
+        for target, room in itertools.product((None, 0, 1, 1_000_000_000), (200, 11, 0)):
+            refusal = number or (16 if target in NO_TARGETS else 0) or (15 if room < 200 else 0)
+            if refusal:
+                yield writing(numbers, target, 0, room, 0), nothing_written(refusal, room)
+
+
+WRITINGS = list(writings())
+# routes in other ways, and written back: "Leading zeros and a minus before zero are allowed."
+OTHER_WAYS = [
+    (route('comma', 't 010,500', 'p -0 -000,0000000', 'p 00,5 -012,3400000', 'g', 'p -00,0000001 7,10'),
+     route('comma', 't 10,5', 'p 0 0', 'p 0,5 -12,34', 'g', 'p -0,0000001 7,1')),
+    (route('point', 't 000.000', 'p 090.0 -180.0', 'g', 'p 000 179.9999990'), route('point', 't 0', 'p 90 -180', 'g', 'p 0 179.999999')),
+    (route('point', 't 999.90'), route('point', 't 999.9')), (route('comma', 'p 007 100'), route('comma', 'p 7 100')),
+]
+FIGURES = [*SINES.items(), *SHEETS.items(), *BACK.items(), *BOTH_WAYS.items(), *STEPS, *orders(), *WRITINGS, *MEASURES, *readings()]

@@ -1,9 +1,9 @@
-"""The document's rules once more, in plain Python: sines, the two sheets, the length of a leg, the route text and its report, the pen, and
-the doors for C over all of these.
+"""The document's rules once more, in plain Python: sines, the two sheets, the length of a leg, the route text, which is read and written, and its
+report, the pen, and the doors for C over all of these.
 
 Each rule is written from the document's sentence, which stands above it in quotes, and not from the Rattle definitions. So the tests hold
-the compiled code to a second reading of the same page. What refuses a point buffer is quoted from the first of the later requests. Nothing
-here is quick.
+the compiled code to a second reading of the same page. What refuses a point buffer, and how a route is written, is quoted from the first of
+the later requests. Nothing here is quick.
 """
 import math
 import re
@@ -22,6 +22,8 @@ MOST_POINTS = 1_000
 NUMBERS = len(('latitude', 'longitude', 'third'))
 MOST_NUMBERS = NUMBERS * MOST_POINTS
 MOST_DIVISOR = 1_000_000
+METRE = 1_000  # millimetres
+MOST_TARGET = 999_999_000
 
 
 def dropped(number, by):
@@ -189,7 +191,7 @@ def number_of(field, mark, minus, decimals, line):
 
 def target_of(field, mark, line):
     """The millimetres of a target in kilometres: "no minus and at most three decimals"."""
-    return 1000 * number_of(field, mark, minus=False, decimals=3, line=line)
+    return METRE * number_of(field, mark, minus=False, decimals=3, line=line)
 
 
 def place_of(latitude, longitude, mark, line):
@@ -258,6 +260,36 @@ def report(text):
     if refusal:
         return b'refused\t%d\t%d\n' % (refusal, line)
     return b'points\t%d\nlength\t%d\ntarget\t%b\n' % (points, length, b'%d' % target if has_target else b'none')
+
+
+# A route written back
+
+def number_text(number, mark, decimals):
+    """The text of a number in units of its last decimal: "Each number is written one way"."""
+    # "no leading zeros but a lone 0": as many digits as there are, and at least one before the decimals
+    digits = str(abs(number)).zfill(decimals + 1)
+    # "no decimals that end in zero", "no bare mark"
+    fraction = digits[-decimals:].rstrip('0')
+    # "no minus on zero"
+    return ('-' if number < 0 else '') + digits[:-decimals] + (mark + fraction if fraction else '')
+
+
+def route_text(points, target, comma):
+    """The text of a route, "from the point buffer, an optional unsigned target in millimetres and a mark"."""
+    # "Line 1 is `route`, tab, `point` or `comma`"
+    name, mark = ('comma', ',') if comma else ('point', '.')
+    lines = [('route', name)]
+    # "`t`, tab, target in kilometres: only as line 2"; "a target's third is a metre"
+    if target is not None:
+        lines.append(('t', number_text(target // METRE, mark, decimals=3)))
+    for k, (latitude, longitude, third) in enumerate(points):
+        # "A `g` line precedes every point after the first whose third number is 1."
+        if k > 0 and third == 1:
+            lines.append(('g',))
+        # "a seventh decimal is a tick"
+        lines.append(('p', number_text(latitude, mark, decimals=7), number_text(longitude, mark, decimals=7)))
+    # "lines ended by LF, fields parted by tabs"
+    return ''.join('\t'.join(fields) + '\n' for fields in lines).encode()
 
 
 # The pen
@@ -367,10 +399,39 @@ def bad_points(points):
     return next(filter(None, (bad_point(latitude, longitude) for latitude, longitude, _ in points)), 0)
 
 
-def measure_door(numbers):
+def bad_buffer(numbers):
     # "order 17, 9, 6 and 7 by point"
-    refusal = bad_thirds(numbers) or bad_count(numbers) or bad_points(points_of(numbers))
+    return bad_thirds(numbers) or bad_count(numbers) or bad_points(points_of(numbers))
+
+
+def measure_door(numbers):
+    refusal = bad_buffer(numbers)
     return (refusal, 0) if refusal else (0, length_of(points_of(numbers)))
+
+
+def bad_target(target):
+    # "16 target not a whole number of metres or above 999,999,000 mm"
+    return 16 if target is not None and (target % METRE != 0 or target > MOST_TARGET) else 0
+
+
+def bad_room(text, output, place):
+    # "15 the output from that place on is too short (a place past its end leaves none)"
+    return 15 if len(text) > max(len(output) - place, 0) else 0
+
+
+def write_door(numbers, has_target, target, comma, output, place):
+    """The writer: (refusal, bytes), and the text in the lent output."""
+    target = target if has_target else None
+    # "order 17, 9, 6 and 7 by point, 16, 15"
+    refusal = bad_buffer(numbers) or bad_target(target)
+    if not refusal:
+        text = route_text(points_of(numbers), target, comma)
+        refusal = bad_room(text, output, place)
+    if refusal:
+        return refusal, 0
+    # "The bytes go into the lent output from a given place onward, nothing before or after them changing; the answer is their number."
+    output[place:place + len(text)] = text
+    return 0, len(text)
 
 
 def pen_door(pen, left, right, bottom, top, divisor, meridian, latitude, longitude, third):
@@ -392,5 +453,6 @@ DOORS = {
     'leg': leg_door,
     'measure': measure_door,
     'read_route': read,
+    'write_route': write_door,
     'pen_step': pen_door,
 }

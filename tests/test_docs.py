@@ -40,12 +40,13 @@ def figures(accuracy, bench):
     """The figures that the README says, worked out from the two tables: what a leg is off by, and what takes how long."""
     near = max(row(accuracy, f'{leg} |')[0] for leg in ('1 m', '10 m', '100 m', '1 km', '10 km', '100 km'))
     pole, antipode = (row(accuracy, leg)[0] for leg in ('1 km, near a pole', 'nearly to the antipode'))
-    calls = [row(bench, door)[0] for door in model.DOORS if door not in ('measure', 'read_route')]
+    calls = [row(bench, door)[0] for door in model.DOORS if door not in ('measure', 'read_route', 'write_route')]
     return [f'{math.ceil(near)} mm in legs of up to 100 km',
             f'{pole / 1e3:.0f} m in a leg of 1 km close to a pole',
             f'{antipode / 1e6:.2f} km in one that leads nearly to the other side',
             f'a call takes some {sum(calls) / len(calls) / 1e3:.0f} microseconds',
             f'a route of 1,000 points takes some {row(bench, "read_route, near, joined")[0] / 1e6:.1f} milliseconds',
+            f'writing it back, which needs no table, some {row(bench, "write_route, near")[0] / 1e6:.2f}, ',
             f'point by point, some {row(bench, "pen_step")[0] / 1e3:.0f} milliseconds']
 
 

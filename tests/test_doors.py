@@ -1,8 +1,8 @@
 """The doors for C, called through the driver doors.c: on the documents' figures, at the limits of every argument, over every row of the
-table, with texts and buffers wherever they may lie, and on random calls.
+table, with texts, buffers and outputs wherever they may lie, and on random calls; and what was written is read again.
 
-Answers are compared as lines, which have every field and every number of a lent buffer. What the documents say holds the doors and the
-model; to any other call the doors have to answer what the model answers.
+Answers are compared as lines, which have every field and every number or byte of what was lent. What the documents say holds the doors and
+the model; to any other call the doors have to answer what the model answers.
 """
 import collections
 import itertools
@@ -16,19 +16,23 @@ from unittest import mock
 import calls
 import doors
 import model
-from figures import ACCEPTED_TEXTS, DOWN, FIGURES, MEASURES, REFUSED_TEXTS, THIRD, UP, route
+import texts
+from figures import ACCEPTED_TEXTS, DOWN, FIGURES, MEASURES, OTHER_WAYS, REFUSED_TEXTS, THIRD, UP, WRITINGS, route
 from model import ENTRIES, HALF_TURN, NUMBERS, QUARTER, STEP
 from test_routes import COUNT, ROUTES, SEED
 
+# writings into an output that their text fills
+FITTING = [call for call, (refusal, size, *_) in WRITINGS if not refusal and call[-2] == size]
 # the refusals of each door; 0 is none
 REFUSALS = {
     'long_sine': {0, 6}, 'short_sine': {0, 6}, 'cylindrical': {0, 6, 7, 14}, 'sinusoidal': {0, 6, 7, 14}, 'cylindrical_back': {0, 11, 14},
     'sinusoidal_back': {0, 11, 14}, 'leg': {0, 6, 7}, 'measure': {0, 6, 7, 9, 17}, 'read_route': set(range(11)),
-    'pen_step': {0, 6, 7, 12, 13, 14},
+    'write_route': {0, 6, 7, 9, 15, 16, 17}, 'pen_step': {0, 6, 7, 12, 13, 14},
 }
 
 BAD_POINT, BAD_POINTS, BAD_THIRDS, DRAWN, GREATEST_ANGLE = model.bad_point, model.bad_points, model.bad_thirds, model.drawn, model.greatest_angle
 LINES_OF, MEASURE_DOOR, NUMBER_OF, PEN_DOOR, READ = model.lines_of, model.measure_door, model.number_of, model.pen_door, model.read
+NUMBER_TEXT, ROUTE_TEXT, WRITE_DOOR = model.number_text, model.route_text, model.write_door
 
 
 def rounded_sinusoidal(latitude, longitude, meridian):
@@ -76,6 +80,52 @@ def joined_measure(numbers):
     return MEASURE_DOOR([0 if k >= NUMBERS and k % NUMBERS == THIRD and number == 1 else number for k, number in enumerate(numbers)])
 
 
+def all_decimals(number, mark, decimals):
+    """Writes all decimals where it writes one."""
+    whole, *fraction = NUMBER_TEXT(number, mark, decimals).split(mark)
+    return mark.join((whole, *(digits.ljust(decimals, '0') for digits in fraction)))
+
+
+def g_first(points, *more):
+    """Writes `g` before the first point as before any other."""
+    return ROUTE_TEXT([(0, 0, 1), *points], *more).replace(b'p\t0\t0\n', b'', 1)
+
+
+def longer_write(*arguments):
+    """Ends the text with a zero byte where there is room for one."""
+    *_, output, place = arguments
+    refusal, size = WRITE_DOOR(*arguments)
+    if not refusal and place + size < len(output):
+        output[place + size] = 0
+    return refusal, size
+
+
+def hasty_write(*arguments):
+    """Writes a byte and then refuses."""
+    *_, output, place = arguments
+    answer = WRITE_DOOR(*arguments)
+    if answer[0] and place < len(output):
+        output[place] = ord('r')
+    return answer
+
+
+def late_target(numbers, has_target, target, *more):
+    """Judges the room of another target first: 15 before 16."""
+    *comma, output, place = more
+    answer = WRITE_DOOR(numbers, has_target, 0, *comma, bytearray(output), place)
+    return answer if answer[0] else WRITE_DOOR(numbers, has_target, target, *more)
+
+
+def early_target(numbers, has_target, target, *more):
+    """16 before what refuses the buffer."""
+    return (16, 0) if has_target and model.bad_target(target) else WRITE_DOOR(numbers, has_target, target, *more)
+
+
+def every_target(numbers, has_target, target, *more):
+    """Judges a target that is not there."""
+    return WRITE_DOOR(numbers, has_target or model.bad_target(target), target, *more)
+
+
 # parts of the model, each replaced by a wrong one
 WRONG = [
     ('latitude_in_range', lambda latitude: abs(latitude) < QUARTER),
@@ -115,6 +165,30 @@ WRONG = [
     ('bad_thirds', lambda numbers: BAD_THIRDS((*numbers[:THIRD], 1, *numbers[THIRD + 1:]) if len(numbers) > THIRD else numbers)),
     # 7 before 6 in a point
     ('bad_points', lambda points: next(filter(None, (BAD_POINT(0, point[1]) or BAD_POINT(*point[:2]) for point in points)), 0)),
+    # a minus on zero, decimals that end in zero, a bare mark, no lone 0, a leading zero, the point under comma
+    ('number_text', lambda number, mark, decimals: NUMBER_TEXT(number, mark, decimals) if number else '-0'),
+    ('number_text', all_decimals),
+    ('number_text', lambda number, mark, decimals: NUMBER_TEXT(number, mark, decimals) + ('' if number % 10**decimals else mark)),
+    ('number_text', lambda number, mark, decimals: NUMBER_TEXT(number, mark, decimals).replace('0' + mark, mark)),
+    ('number_text', lambda number, mark, decimals: NUMBER_TEXT(number, mark, decimals).zfill(2)),
+    ('number_text', lambda number, mark, decimals: NUMBER_TEXT(number, '.', decimals)),
+    # `g` before the first point, no `g`, no line for a target of 0
+    ('route_text', g_first),
+    ('route_text', lambda *route: ROUTE_TEXT(*route).replace(b'g\n', b'')),
+    ('route_text', lambda points, target, comma: ROUTE_TEXT(points, target or None, comma)),
+    # part metres dropped; the greatest target refused, and a greater one accepted
+    ('bad_target', lambda target: 16 if target is not None and target > model.MOST_TARGET else 0),
+    ('MOST_TARGET', 999_998_000),
+    ('MOST_TARGET', 1_000_000_000),
+    # room counted from the output's beginning; a byte more asked for; place and size added in 64 bits
+    ('bad_room', lambda text, output, place: 15 if len(text) > len(output) else 0),
+    ('bad_room', lambda text, output, place: 15 if len(text) >= max(len(output) - place, 0) else 0),
+    ('bad_room', lambda text, output, place: 15 if (place + len(text)) % 2**64 > len(output) else 0),
+    *(('DOORS', {**model.DOORS, 'write_route': wrong}) for wrong in (longer_write, hasty_write, late_target, early_target, every_target)),
+    # any number but 1 taken for 0, and 256
+    ('DOORS', {**model.DOORS, 'write_route': lambda numbers, has_target, *more: WRITE_DOOR(numbers, has_target == 1, *more)}),
+    ('DOORS', {**model.DOORS, 'write_route': lambda numbers, has_target, target, comma, *more: WRITE_DOOR(
+        numbers, has_target, target, comma % 256, *more)}),
 ]
 # what chance brings seldom or never: third numbers behind the 1,000th point not judged; 6 of all points before 7 of any; one byte or one
 # target taken for another
@@ -136,6 +210,10 @@ def modelled(given):
             room, text = arguments
             buffer = doors.lent(room)
             yield doors.line_of((*model.DOORS[door](text, buffer), 1, *buffer))
+        elif door == 'write_route':
+            *route, room, place = arguments
+            output = doors.lent_output(room)
+            yield doors.line_of((*model.DOORS[door](*route, output, place), 1, bytes(output)))
         elif door == 'measure':
             yield doors.line_of((*model.DOORS[door](*arguments), 1))
         else:
@@ -149,7 +227,7 @@ def differing(given, said, wanted, most=3):
 
 
 def plain(call):
-    """A call without what says where its text and its buffer lie: the answer is the same."""
+    """A call without what says where its text, its buffer and its output lie: the answer is the same."""
     return call[2:] if call[0] in ('at', 'far') else call
 
 
@@ -233,7 +311,7 @@ class Fixed(Compared, unittest.TestCase):
     @classmethod
     def setUpClass(cls):
         cls.given = [*Figures.given, *calls.every_byte(), *calls.sines(), *calls.sheets(), *calls.places(), *calls.legs(), *calls.steps(),
-                     *calls.files(ROUTES)]
+                     *calls.files(ROUTES), *calls.writings()]
         cls.said = doors.answers(cls.given)
 
 
@@ -277,9 +355,9 @@ class Rows(unittest.TestCase):
 
 
 class Placed(unittest.TestCase):
-    """Texts and buffers at every alignment, and right beside memory that may not be read."""
+    """Texts, buffers and outputs at every alignment, and right beside memory that may not be read."""
     GIVEN = [*(('read_route', calls.room_for(text.count(b'\np\t')), text) for text, *_ in (*REFUSED_TEXTS, *ACCEPTED_TEXTS)),
-             *(call for call, _ in MEASURES)]
+             *(call for call, _ in MEASURES), *FITTING, ('write_route', (), 0, 0, 0, 0, 0)]
 
     def differing_at(self, places, given):
         placed = [('at', place, *call) for call in given for place in places]
@@ -287,7 +365,7 @@ class Placed(unittest.TestCase):
 
     def test_at_every_alignment(self):
         # of 64 bytes, and of 64 numbers, from either end of the memory
-        short = [call for call in self.GIVEN if len(call[-1]) < 200]
+        short = [call for call in self.GIVEN if len(doors.line_of(call)) < 500]
         self.assertEqual(self.differing_at([*range(64), *range(-64, 0)], short), [])
 
     def test_beside_what_may_not_be_read(self):
@@ -309,17 +387,70 @@ class Counts(unittest.TestCase):
         given = [('far', count, *reading) for count in (2**31, 2**32, 2**32 + 5, 2**61 - 1) for reading in routes]
         self.assertEqual(differing(given, doors.answers(given), modelled(map(plain, given))), [])
 
-    def test_a_buffer_that_is_measured(self):
+    def test_a_buffer_that_is_measured_or_written(self):
         # "17 buffer not a multiple of three"; a multiple of three is judged to its end, which takes more than a test has
-        given = [('far', count, 'measure', (0, 0, 1)) for count in (2**32, 2**32 + 1, 2**32 + 3, 2**61 - 1)]
-        self.assertEqual(doors.answers(given), len(given) * ['17 0 1'])
+        counts = (2**32, 2**32 + 1, 2**32 + 3, 2**61 - 1)
+        self.assertEqual(doors.answers([('far', count, 'measure', (0, 0, 1)) for count in counts]), len(counts) * ['17 0 1'])
+        self.assertEqual(doors.answers([('far_points', count) for count in counts]), len(counts) * ['17 0'])
+
+    def test_an_output(self):
+        # "nothing before or after them changing": here what follows the text in its memory
+        given = [('far', count, *writing) for count in (2**31, 2**32, 2**32 + 5, 2**63 - 1) for writing in FITTING]
+        self.assertEqual(differing(given, doors.answers(given), modelled(map(plain, given))), [])
+
+
+class WrittenAndRead(unittest.TestCase):
+    """What was written is read again, and what was read is written back."""
+
+    def written(self, given):
+        """The text that each writing has put out, with what it was made from; those that are refused are left out."""
+        for (_, numbers, has_target, target, *_, place), line in zip(given, doors.answers(given)):
+            refusal, size, _, output = line.split()
+            if refusal == '0':
+                yield bytes.fromhex(output[1:])[place:place + int(size)], numbers, has_target, target
+
+    def test_points_target_and_length_come_back(self):
+        # "Reading what was written gives back points, target and length."
+        given = [*(call for call, _ in WRITINGS), *calls.writings(), *calls.random_writings(random.Random(SEED), COUNT)]
+        routes = list(self.written(given))
+        self.assertGreater(len(routes), 3_000)
+        lengths = [line.split()[1] for line in doors.answers([('measure', numbers) for _, numbers, *_ in routes])]
+        readings = [('read_route', len(numbers), text) for text, numbers, *_ in routes]
+        wanted = [doors.line_of((0, 0, len(numbers) // NUMBERS, int(has_target > 0), length, target if has_target else 0, 1, *numbers))
+                  for length, (_, numbers, has_target, target) in zip(lengths, routes)]
+        for said in (doors.answers(readings), modelled(readings)):
+            self.assertEqual(differing(readings, said, wanted), [])
+
+    def rewritten(self, given):
+        """Texts that are read and then written with the mark that they had."""
+        readings = [('read_route', calls.room_for(text.count(b'\np\t')), text) for text in given]
+        writings = []
+        for text, line in zip(given, doors.answers(readings)):
+            _, _, points, has_target, _, target, _, *numbers = map(int, line.split())
+            comma = int(text.startswith(b'route\tcomma\n'))
+            writings.append(('write_route', tuple(numbers), has_target, target, comma, calls.output_for(points), 0))
+        return [text for text, *_ in self.written(writings)]
+
+    def test_a_route_in_another_way_is_written_back_one_way(self):
+        given, wanted = zip(*OTHER_WAYS)
+        self.assertEqual(self.rewritten(given), list(wanted))
+        self.assertEqual(self.rewritten(wanted), list(wanted))
+
+    def test_random_routes_are_written_back_one_way(self):
+        some = random.Random(SEED)
+        given = [b''.join(texts.good_route(some)) for _ in range(COUNT)]
+        written = self.rewritten(given)
+        self.assertEqual(written, [texts.one_way(text) for text in given])
+        self.assertNotEqual(written, given)
 
 
 class Random(Compared, unittest.TestCase):
     @classmethod
     def setUpClass(cls):
         some = random.Random(SEED)
-        cls.given = [*calls.random_calls(some, 50 * COUNT), *calls.random_readings(some, COUNT), *calls.random_measures(some, COUNT)]
+        cls.given = [*calls.random_calls(some, 50 * COUNT), *calls.random_readings(some, COUNT), *calls.random_measures(some, COUNT),
+                     *calls.random_writings(some, 2 * COUNT)]
+        some.shuffle(cls.given)  # so that what is wrong with one door is seen before all the others are through
         cls.said = doors.answers(cls.given)
         given, said = answered_runs(some, COUNT // 4, 40)
         cls.given += given
@@ -339,6 +470,15 @@ class Guards(unittest.TestCase):
             %(after_reading)s;
             return r;
         }
+        senruhobi_written __real_senruhobi_write_route(const int32_t *, size_t, uint32_t, uint64_t, uint32_t, uint8_t *, size_t, size_t);
+        senruhobi_written __wrap_senruhobi_write_route(const int32_t *points, size_t numbers, uint32_t has_target, uint64_t target, uint32_t comma,
+                                                       uint8_t *out, size_t bytes, size_t place)
+        {
+            %(before_writing)s;
+            senruhobi_written r = __real_senruhobi_write_route(points, numbers, has_target, target, comma, out, bytes, place);
+            %(after_writing)s;
+            return r;
+        }
         senruhobi_length __real_senruhobi_measure(const int32_t *, size_t);
         senruhobi_length __wrap_senruhobi_measure(const int32_t *points, size_t numbers)
         {
@@ -350,50 +490,64 @@ class Guards(unittest.TestCase):
     """
     READ = [('read_route', 8, route('point', 'p 0 0', 'p 0 90')), ('read_route', 8, route('point', 'p 0 0')[:-1])]
     MEASURED = [('measure', (0, 0, 1, 0, 900_000_000, 0)), ('measure', (0, 0, 0))]
+    WRITTEN = [('write_route', (0, 0, 1, 0, 900_000_000, 0), 0, 0, 0, 40, 7), ('write_route', (0, 0, 0), 0, 0, 0, 40, 7)]
 
     def answers(self, given, **spoilt):
         """What the doors answer, spoilt in the places named."""
         with tempfile.TemporaryDirectory() as room:
             source = pathlib.Path(room) / 'between.c'
             source.write_text(self.BETWEEN % collections.defaultdict(str, spoilt), encoding='utf-8')
-            wrapped = ['--wrap=senruhobi_read_route', '--wrap=senruhobi_measure']
+            wrapped = [f'--wrap=senruhobi_{door}' for door in ('read_route', 'measure', 'write_route')]
             return doors.answers(given, doors.linked(source.parent, *wrapped, doors.compiled(source, source.parent)))
 
     def seen(self, given, **spoilt):
         """How many calls the spoilt doors answer otherwise than they should."""
-        return len(differing(given, self.answers(given, **spoilt), modelled(map(plain, given))))
+        return len(differing(given, self.answers(given, **spoilt), modelled(map(plain, given)), most=len(given)))
 
     def test_doors_that_are_not_spoilt(self):
-        given = [*self.READ, *self.MEASURED]
+        given = [*self.READ, *self.MEASURED, *self.WRITTEN]
         self.assertEqual(self.seen([*given, *(('at', place, *call) for call in given for place in (0, -1))]), 0)
 
     def test_a_door_that_changes_what_is_not_its_own(self):
-        # beside the buffer, at both ends of the driver's memory, in the text, and in what is only measured
+        # beside the buffer or the output, at both ends of the driver's memory, in the text, and in what is only measured or written
         for place in ('buffer[-1]', 'buffer[-4096]', 'buffer[numbers]', 'buffer[12287]', '((uint8_t *)text)[bytes - 1]'):
             with self.subTest(place):
                 self.assertEqual(self.seen(self.READ, after_reading=f'{place} = 0'), 2)
         for place in ('[-1]', '[-4096]', '[numbers]', '[12287]', '[0]', '[numbers - 1]'):
             with self.subTest(place):
-                self.assertEqual(self.seen(self.MEASURED, after_measuring=f'((int32_t *)points){place} = 7'), 2)
+                spoilt = f'((int32_t *)points){place} = 7'
+                self.assertEqual(self.seen([*self.MEASURED, *self.WRITTEN], after_measuring=spoilt, after_writing=spoilt), 4)
+        for place in ('[-1]', '[-4096]', '[bytes]', '[61439]'):
+            with self.subTest(place):
+                self.assertEqual(self.seen(self.WRITTEN, after_writing=f'out{place} = 7'), 2)
 
     def test_a_reader_that_changes_the_rest_of_the_buffer(self):
         self.assertEqual(self.seen(self.READ, after_reading='buffer[numbers - 1] = 0'), 2)
+
+    def test_a_writer_that_changes_the_rest_of_the_output(self):
+        for place in ('[0]', '[place - 1]', '[place + r.bytes]', '[bytes - 1]'):
+            with self.subTest(place):
+                self.assertEqual(self.seen(self.WRITTEN, after_writing=f'out{place} = 7'), 2)
 
     def test_a_reader_that_goes_on_behind_the_text(self):
         self.assertEqual(self.seen(self.READ, before_reading='bytes++'), 2)
 
     def test_a_door_that_looks_where_it_may_not(self):
         for when, call, begin, behind in (('before_reading', self.READ[0], 'text', 'bytes'), ('before_reading', self.READ[0], 'buffer', 'numbers'),
-                                          ('before_measuring', self.MEASURED[0], 'points', 'numbers')):
+                                          ('before_measuring', self.MEASURED[0], 'points', 'numbers'),
+                                          ('before_writing', self.WRITTEN[0], 'points', 'numbers'),
+                                          ('before_writing', self.WRITTEN[0], 'out', 'bytes')):
             for place, what in ((0, f'{begin} - 1'), (-1, f'{begin} + {behind}')):
                 with self.subTest(what), self.assertRaisesRegex(RuntimeError, f'{call[0]} in line 1 read or wrote where it may not'):
                     self.answers([('at', place, *call)], **{when: f'(void)*(volatile const uint8_t *)({what})'})
 
     def test_a_door_that_takes_32_bits_of_a_count(self):
-        cut = {'before_reading': 'bytes = (uint32_t)bytes, numbers = (uint32_t)numbers', 'before_measuring': 'numbers = (uint32_t)numbers'}
-        given = [('far_text', 2**32), *(('far', 2**32 + 5, *call) for call in self.READ), ('far', 2**32 + 3, 'measure', (0, 0, 1))]
-        self.assertEqual([line.split()[0] for line in self.answers(given)], ['1', '0', '3', '17'])
-        self.assertEqual([line.split()[0] for line in self.answers(given, **cut)], ['2', '10', '3', '0'])
+        cut = {'before_reading': 'bytes = (uint32_t)bytes, numbers = (uint32_t)numbers', 'before_measuring': 'numbers = (uint32_t)numbers',
+               'before_writing': 'numbers = (uint32_t)numbers, bytes = (uint32_t)bytes, place = (uint32_t)place'}
+        given = [('far_text', 2**32), *(('far', 2**32 + 5, *call) for call in self.READ), ('far', 2**32 + 3, 'measure', (0, 0, 1)),
+                 ('far_points', 2**32), ('far', 2**32 + 5, *self.WRITTEN[0]), (*self.WRITTEN[0][:-1], 2**32)]
+        self.assertEqual([line.split()[0] for line in self.answers(given)], ['1', '0', '3', '17', '17', '0', '15'])
+        self.assertEqual([line.split()[0] for line in self.answers(given, **cut)], ['2', '10', '3', '0', '15', '15', '0'])
         with self.assertRaisesRegex(RuntimeError, 'where it may not'):
             self.answers([('far_text', 2**32 + 12)], **cut)
 

@@ -1,6 +1,7 @@
 """The examples for C and Rust build as the README says and print what the documents' rules say, and the README shows them as they are."""
 import contextlib
 import ctypes
+import os
 import pathlib
 import re
 import subprocess
@@ -13,11 +14,12 @@ import doors
 import model
 
 README = built.ROOT / 'README.md'
-SOURCE = built.ROOT / 'examples/draw.c'
+SOURCE, REMARK = built.ROOT / 'examples/draw.c', built.ROOT / 'examples/remark.c'
 QUARTER = model.leg(0, 0, 0, model.QUARTER)  # of the equator
 TEXT = b'route\tcomma\nt\t55,5\np\t60\t10\np\t60\t11\ng\np\t60,5\t10,5\np\t-33,9\t151,2\n'
 WINDOW, DIVISOR, MERIDIAN = (0.0, 1e9, 0.0, 1e10), 1_000_000, 0
 STROKES = {0: 'outside', 1: 'move', 2: 'line'}
+SHOWN = 'route\tpoint\nt\t10\np\t-0.5\t7\n'  # what the README's route is with the other mark
 
 
 def expected():
@@ -46,6 +48,11 @@ def built_by_the_readme(word):
         yield ran.stdout, room
 
 
+def called(source):
+    """The call of the writer in a program."""
+    return re.search(r'^    senruhobi_written [^;]*;\n', source, re.M)[0]
+
+
 class Example(unittest.TestCase):
     def test_it_prints_what_the_model_says(self):
         with tempfile.TemporaryDirectory() as room:
@@ -54,14 +61,21 @@ class Example(unittest.TestCase):
 
     def test_the_readme_shows_it(self):
         readme = README.read_text(encoding='utf-8')
-        for shown in (SOURCE.read_text(encoding='utf-8'), expected()):
+        for shown in (SOURCE.read_text(encoding='utf-8'), expected(), SHOWN):
             self.assertIn(textwrap.indent(shown, '    '), readme)
+        self.assertIn(called(REMARK.read_text(encoding='utf-8')), readme)
 
     @built.needs('cc')
     @built.on_x86_64
     def test_it_builds_as_the_readme_says(self):
         with built_by_the_readme('draw.c') as (said, _):
             self.assertEqual(said, expected())
+
+    @built.needs('cc')
+    @built.on_x86_64
+    def test_the_one_that_writes_builds_as_the_readme_says(self):
+        with built_by_the_readme('remark.c') as (said, _):
+            self.assertEqual(said, SHOWN)
 
     @built.needs('cc')
     @built.needs('rustc')
@@ -82,6 +96,43 @@ class Example(unittest.TestCase):
             leg.restype = Length
             length = leg(0, 0, 0, model.QUARTER)
             self.assertEqual((length.refusal, length.millimetres), (0, QUARTER))
+
+
+class Remark(unittest.TestCase):
+    LONG = b'g\n'.join(1000 * [b'p\t-89.9999999\t-179.9999999\n'])
+    # routes, and what they are with the other mark
+    WRITTEN = [
+        (b'route\tcomma\n', b'route\tpoint\n'), (b'route\tpoint\n', b'route\tcomma\n'), (b'route\tcomma\nt\t0\n', b'route\tpoint\nt\t0\n'),
+        (b'route\tcomma\nt\t55,5\np\t60\t10\np\t60\t11\ng\np\t60,5\t10,5\np\t-33,9\t151,2\n',
+         b'route\tpoint\nt\t55.5\np\t60\t10\np\t60\t11\ng\np\t60.5\t10.5\np\t-33.9\t151.2\n'),
+        (b'route\tpoint\nt\t002.500\np\t-0\t-000.0000001\n', b'route\tcomma\nt\t2,5\np\t0\t-0,0000001\n'),
+        (b'route\tpoint\nt\t999.999\n' + LONG, b'route\tcomma\nt\t999,999\n' + LONG.replace(b'.', b',')),
+    ]
+    REFUSED = {b'route\tpoint\nt\t10,000\n': 'refused: 5 at line 2\n', b'': 'refused: 2 at line 1\n', 60_001 * b'\n': 'refused: 1 at line 0\n'}
+
+    @classmethod
+    def setUpClass(cls):
+        room = tempfile.TemporaryDirectory()
+        cls.addClassCleanup(room.cleanup)
+        cls.program = doors.linked(pathlib.Path(room.name), source=REMARK)
+
+    def test_it_writes_a_route_with_the_other_mark(self):
+        for text, other in self.WRITTEN:
+            self.assertEqual(built.run(self.program, text), other)
+
+    def test_it_says_a_refusal(self):
+        for text, said in self.REFUSED.items():
+            ran = subprocess.run(built.command(self.program), input=text, capture_output=True, timeout=60)
+            self.assertEqual((ran.returncode, ran.stdout, ran.stderr.decode()), (1, b'', said))
+
+    def test_what_cannot_be_read_or_written_is_no_route(self):
+        with open('/dev/full', 'wb') as full:
+            ran = subprocess.run(built.command(self.program), input=b'route\tcomma\n', stdout=full, timeout=60)
+        self.assertEqual(ran.returncode, 2)
+        folder = os.open('/', os.O_RDONLY)
+        self.addCleanup(os.close, folder)
+        ran = subprocess.run(built.command(self.program), stdin=folder, capture_output=True, timeout=60)
+        self.assertEqual((ran.returncode, ran.stdout), (2, b''))
 
 
 if __name__ == '__main__':

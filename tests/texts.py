@@ -1,5 +1,6 @@
-"""Random route texts: mostly a good route that one or two changes spoil, and some noise."""
+"""Random route texts: mostly a good route that one or two changes spoil, and some noise. And a good route with its numbers written one way."""
 import itertools
+import re
 
 from model import HALF_TURN, QUARTER
 
@@ -58,6 +59,16 @@ def good_route(random):
         longitude = max(-HALF_TURN, min(longitude, HALF_TURN - 1))
         lines.append(b'p\t%b\t%b\n' % (written(random, latitude, MARKS[header]), written(random, longitude, MARKS[header])))
     return lines
+
+
+def one_way(text):
+    """A good route with its numbers written one way, made from its bytes alone."""
+    def number(said):
+        minus, whole, mark, fraction = said.groups(b'')
+        digits = whole + (mark + fraction if fraction else b'')
+        return (minus if digits != b'0' else b'') + digits
+
+    return re.sub(rb'(?<=\t)(-?)0*([0-9]+?)(?:([.,])([0-9]*?)0*)?(?=[\t\n])', number, text)
 
 
 def change_number(random, lines, number):

@@ -17,5 +17,8 @@ is-byte = answers (λ κs a v w. refl)
 pub equal : One numbers.pieces.equal.ended numbers.pieces.equal.Reads.Asked numbers.pieces.equal.Reads.Learnt
 equal = answers (λ κs a v w. refl)
 
+pub named : One numbers.Mark.named.ended numbers.Mark.named.Reads.Asked numbers.Mark.named.Reads.Learnt
+named = answers (λ κs a v w. refl)
+
 pub read : One numbers.read.ended numbers.read.Reads.Asked numbers.read.Reads.Learnt
 read = answers (λ κs a v w. refl)

@@ -32,7 +32,7 @@ no n = record { refusal = n; value = pos 0 }
 -- ---- an answer from its number
 
 -- 0 is the number of no refusal
-accepted : {kind : Kind} (x : Number) → NumberSays kind x → numberPaper x .refusal ≡ 0 → x ≡ N.Value (numberPaper x .value)
+pub accepted : {kind : Kind} (x : Number) → NumberSays kind x → numberPaper x .refusal ≡ 0 → x ≡ N.Value (numberPaper x .value)
 accepted (N.Value v) t e = refl
 accepted (N.Refused n) (Laws.refused o) e = clash o (ap ofLine e)
 

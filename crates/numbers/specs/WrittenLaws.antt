@@ -25,13 +25,13 @@ use Rattle.numbers.specs.Written.{Makes, none, digit, Decimals, nothing,
 
 -- ---- digits
 
-makes-digits : {s : List ℕ} {n : ℕ} → Makes s n → (allDigits s ≡ true) × (valueOf s ≡ n)
+pub makes-digits : {s : List ℕ} {n : ℕ} → Makes s n → (allDigits s ≡ true) × (valueOf s ≡ n)
 makes-digits none = (refl, refl)
 makes-digits (digit {b} {n} {s} h k m) =
     let t = makes-digits m in
     (rw (le-leb 48 b h, le-leb b 57 k) (t .0), rw (t .1))
 
-digits-make : (s : List ℕ) → allDigits s ≡ true → Makes s (valueOf s)
+pub digits-make : (s : List ℕ) → allDigits s ≡ true → Makes s (valueOf s)
 digits-make [] e = none
 digits-make (b ∷ s) e =
     let t = and-true (isDigit b) (allDigits s) e in

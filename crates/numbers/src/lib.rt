@@ -38,7 +38,8 @@ pub enum Number {
 }
 
 impl Mark {
-    fn named(self) -> u8
+    // Its byte.
+    pub fn named(self) -> u8
         ensures { λ r. ⌜ r ≡ namedByte self ⌝ }
     {
         match self {

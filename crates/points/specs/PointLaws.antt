@@ -2,16 +2,17 @@
 -- Assumes nothing.
 use mathlib.Core.Path.{_≡_, refl}
 use mathlib.Core.Bool.{true, false, _&&_}
-use mathlib.Core.List.{List, [], _++_}
+use mathlib.Core.List.{List, [], _++_, append-assoc}
 use Prim.Native.Nat.{ℕ, zero, suc, _+_, _*_, _%_, _≤_, _<_}
 use native.Mathlib.Nat.{add-zero, zero-add}
+use native.Mathlib.Numerals.{add-one, add-two}
 use native.Mathlib.Omega.{arith}
 use borrow.Author.Count.{below-none, below-more}
 use borrow.Author.Tests.{eqb-true, leb-true, eq-eqb, le-leb, lt-ltb, le-ltb}
 use lib.Dec.{leb, eqb}
 use lib.IntN.{ℤ, pos}
-use lib.ListN.{length, set}
-use lib.Seq.{sets}
+use lib.ListN.{length, take, set}
+use lib.Seq.{take-all, take-suc, sets}
 use mir.Syntax.{w32}
 use mir.Facts.{toZ-ofZ}
 use mir.Val.{toZ, ofZ}
@@ -91,6 +92,21 @@ longitude-read p = toZ-ofZ (longitude-fits (p .longitude))
 -- a point that a leg leads to is not the first
 pub leg-before : (b : List ℤ) (i : ℕ) → fitsAfter i (thirdAt b i) ≡ true → eqZ (thirdAt b i) (pos 1) ≡ false → 1 ≤ i
 leg-before b i t e = leb-true 1 i (and-true (leb 1 i) (eqZ (thirdAt b i) (pos 0)) (rw e at t) .0)
+
+-- ---- the numbers of the first points
+
+module _ (b : List ℤ) where
+  -- those of one point more
+  pub take-point : (i : ℕ) → i < count b → take (numbers * suc i) b ≡ take (numbers * i) b ++ pointNumbers (latitudeAt b i) (longitudeAt b i) (thirdAt b i)
+  take-point i h =
+      let at = numbers * i in
+      let e : numbers * suc i ≡ suc (suc (suc at)) = omega arith in
+      rw (add-zero, add-one, add-two, e, take-suc b (suc (suc at)) (pos 0) (omega arith), take-suc b (suc at) (pos 0) (omega arith), take-suc b at (pos 0) (omega arith))
+      (simp append-assoc)
+
+  -- those of all points are the whole buffer
+  pub take-points : bufferRefusal b ≡ 0 → take (numbers * count b) b ≡ b
+  take-points e = take-all (numbers * count b) b (omega (arith, accepted b e .whole))
 
 -- ---- a list of points is accepted
 

@@ -60,6 +60,14 @@ DIVISOR = 13
 abbrev pub MERIDIAN : ℕ
 MERIDIAN = 14
 
+-- "the output from that place on is too short (a place past its end leaves none)"
+abbrev pub OUTPUT : ℕ
+OUTPUT = 15
+
+-- "target not a whole number of metres or above 999,999,000 mm"
+abbrev pub TARGET : ℕ
+TARGET = 16
+
 -- "buffer not a multiple of three, a third number other than 0 or 1, or a first one of 0"
 abbrev pub BUFFER : ℕ
 BUFFER = 17

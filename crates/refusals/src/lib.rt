@@ -30,6 +30,10 @@ pub const DIVISOR: u32 = 13;
 
 pub const MERIDIAN: u32 = 14;
 
+pub const OUTPUT: u32 = 15;
+
+pub const TARGET: u32 = 16;
+
 pub const BUFFER: u32 = 17;
 
 // The first of two refusals.

@@ -34,13 +34,17 @@ gapOf before k =
     (unless (eqb before (code "p")) (L.Refused ORDER)
     L.Gap)
 
+-- millimetres in a metre
+abbrev pub metre : ℕ
+metre = 1_000
+
 -- "only as line 2, at most once"; a target's third decimal is a metre
 unfoldable pub targetOf : Mark → ℕ → List ℕ → List ℕ → Line
 targetOf mark before k s =
     unless (isByte (code "t") k) (L.Refused LINE)
     (unless (eqb before (code "r")) (L.Refused ORDER)
     (taken (numberOf K.Target mark s) (λ metres.
-    L.Target (1_000 * natAbs metres))))
+    L.Target (metre * natAbs metres))))
 
 -- "latitude, tab, longitude in degrees; at most 1,000 such lines": n stand before it
 unfoldable pub pointOf : Mark → ℕ → List ℕ → List ℕ → List ℕ → Line

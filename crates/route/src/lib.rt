@@ -50,6 +50,9 @@ pub struct ReadingOut {
 
 pub const MOST_BYTES: usize = 60_000;
 
+// Millimetres in a metre: a target is in kilometres, its third decimal a metre.
+pub const METRE: u64 = 1_000;
+
 fn read_header(line: &[u8]) -> Header
     ensures { λ r. ⌜ r ≡ headerOf (now (line .entry)) ⌝ }
 {

@@ -5,6 +5,7 @@ ghost use Rattle.points.specs.Points.{mostPoints};
 ghost use Rattle.numbers.specs.Pieces.{TAB, split};
 ghost use Rattle.route.specs.Line.{gapOf, targetOf, pointOf, fieldsOf, thirdOf};
 ghost use Rattle.route.specs.LineLaws.{refusalOf, start, stateAfter};
+use crate::METRE;
 use crate::Target;
 use numbers::Kind;
 use numbers::Mark;
@@ -34,9 +35,6 @@ pub(crate) struct State {
     pub points: u32,
     pub target: Target,
 }
-
-// A target is in kilometres, its third decimal a metre.
-const METRE: u64 = 1_000;
 
 // 0 where the number was read.
 fn refusal_of(n: Number) -> u32

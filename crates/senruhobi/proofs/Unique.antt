@@ -2,6 +2,7 @@
 -- Assumes nothing.
 use mathlib.Core.Path.{refl, ap}
 use mathlib.Core.List.{List}
+use Prim.Native.Nat.{ℕ}
 use lib.IntN.{ℤ}
 use Rattle.refusals.specs.One.{One, answers, leaves}
 use Rattle.senruhobi.proofs as senruhobi
@@ -32,6 +33,9 @@ senruhobi-measure = answers (λ κs a v w. refl)
 
 pub senruhobi-read-route : One senruhobi.senruhobi_read_route.ended senruhobi.senruhobi_read_route.Reads.Asked senruhobi.senruhobi_read_route.Reads.Learnt
 senruhobi-read-route = leaves (λ κs a v w p. ap (λ (l : List ℤ). (tt, (l, tt))) p)
+
+pub senruhobi-write-route : One senruhobi.senruhobi_write_route.ended senruhobi.senruhobi_write_route.Reads.Asked senruhobi.senruhobi_write_route.Reads.Learnt
+senruhobi-write-route = leaves (λ κs a v w p. ap (λ (l : List ℕ). (tt, (tt, (tt, (tt, (l, (tt, tt))))))) p)
 
 pub senruhobi-pen-step : One senruhobi.senruhobi_pen_step.ended senruhobi.senruhobi_pen_step.Reads.Asked senruhobi.senruhobi_pen_step.Reads.Learnt
 senruhobi-pen-step = answers (λ κs a v w. refl)

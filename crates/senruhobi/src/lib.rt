@@ -9,6 +9,7 @@ ghost use Rattle.globe.specs.Leg.{legOf};
 ghost use Rattle.globe.specs.Measure.{measureOf};
 ghost use Rattle.route.specs.Paper.{readingPaper};
 ghost use Rattle.route.specs.Route.{readingOf, bufferOf};
+ghost use Rattle.writer.specs.Paper.{answer, left, targetOf, markOf};
 ghost use Rattle.pen.specs.Paper.{stepped};
 
 mod out;
@@ -17,10 +18,13 @@ use globe::LengthOut;
 use globe::PlaceOut;
 use globe::PointOut;
 use globe::SineOut;
+use numbers::Mark;
+use numerals::WritingOut;
 use pen::Pen;
 use pen::StepOut;
 use pen::Window;
 use route::ReadingOut;
+use route::Target;
 
 #[no_mangle]
 pub extern "C" fn senruhobi_long_sine(angle: i32) -> SineOut
@@ -90,6 +94,47 @@ pub extern "C" fn senruhobi_read_route(text: &[u8], buffer: &mut [i32]) -> Readi
     ensures { λ r. ⌜ now (buffer .exit) ≡ bufferOf (now (text .entry)) (now (buffer .entry)) ⌝ }
 {
     out::reading(route::read(text, buffer))
+}
+
+// targeted: 0 without a target, any other number with it.
+fn target(targeted: u32, millimetres: u64) -> Target
+    ensures { λ r. ⌜ r ≡ targetOf targeted millimetres ⌝ }
+{
+    if targeted == 0 {
+        return Target::None;
+    }
+    Target::Millimetres(millimetres)
+}
+
+// comma: 0 the point, any other number the comma.
+fn mark(comma: u32) -> Mark
+    ensures { λ r. ⌜ r ≡ markOf comma ⌝ }
+{
+    if comma == 0 {
+        return Mark::Point;
+    }
+    Mark::Comma
+}
+
+#[no_mangle]
+pub extern "C" fn senruhobi_write_route(
+    points: &[i32],
+    targeted: u32,
+    millimetres: u64,
+    comma: u32,
+    out: &mut [u8],
+    place: usize,
+) -> WritingOut
+    ensures { λ r. ⌜ r ≡ answer (markOf comma) (targetOf targeted millimetres) (now (points .entry)) place (now (out .entry)) ⌝ }
+    ensures { λ r. ⌜ now (out .exit) ≡ left (markOf comma) (targetOf targeted millimetres) (now (points .entry)) place (now (out .entry)) ⌝ }
+{
+    out::writing(writer::write(
+        points,
+        target(targeted, millimetres),
+        mark(comma),
+        out,
+        place,
+    ))
 }
 
 // pen: 0 up, any other number down.

@@ -3,6 +3,7 @@ ghost use mathlib.Core.Path.{_≡_};
 ghost use Rattle.globe.specs.Paper.{sinePaper, placePaper, pointPaper, lengthPaper};
 ghost use Rattle.route.specs.declared.Reading.the-variants.{Route};
 ghost use Rattle.route.specs.Paper.{readingPaper};
+ghost use Rattle.numerals.specs.Paper.{writingPaper};
 ghost use Rattle.pen.specs.Paper.{penPaper, drawnPaper, stepPaper};
 use globe::Length;
 use globe::LengthOut;
@@ -12,6 +13,8 @@ use globe::Point;
 use globe::PointOut;
 use globe::Sine;
 use globe::SineOut;
+use numerals::Writing;
+use numerals::WritingOut;
 use pen::Answer;
 use pen::Pen;
 use pen::Step;
@@ -115,6 +118,18 @@ pub(crate) fn reading(r: Reading) -> ReadingOut
             length: 0,
             target: 0,
         },
+    }
+}
+
+pub(crate) fn writing(w: Writing) -> WritingOut
+    ensures { λ r. ⌜ r ≡ writingPaper w ⌝ }
+{
+    match w {
+        Writing::Bytes(bytes) => WritingOut {
+            refusal: 0,
+            bytes: bytes as u64,
+        },
+        Writing::Refused(refusal) => WritingOut { refusal, bytes: 0 },
     }
 }
 
