@@ -1,4 +1,5 @@
-"""Every function that others can call fixes its result, asks nothing of its caller and is in its crate's list of uniqueness.
+"""Every function that others can call fixes its result, asks nothing of its caller and is in its crate's list of uniqueness, and a crate holds
+nothing but what the prover or the gate reads.
 
 The prover checks each entry of a list, crates/NAME/proofs/Unique.antt: that the function's own contract allows one result. That no function is
 missing from the lists is for this test to see.
@@ -23,6 +24,15 @@ def listed(root, crate):
         return set()
     text = (proofs / 'Unique.antt').read_text(encoding='utf-8')
     return {names[0] for names in ENTRY.findall(text) if len(set(names)) == 1} if LAW.search(text) else set()
+
+
+def strays(root):
+    """The files of the crates that neither the prover nor the gate reads, as a copy that an editor leaves behind."""
+    kinds = re.compile(r'crates/\w+/(?:src/\w+\.rt|specs/\w+\.antt|proofs/(?:\w+/)*\w+\.antt|must-fail/\w+\.edit|stdin|stdout)')
+    for path in sorted(root.glob('crates/**/*')):
+        name = path.relative_to(root).as_posix()
+        if path.is_file() and not kinds.fullmatch(name):
+            yield name
 
 
 def faults(root):
@@ -117,6 +127,16 @@ class Statements(unittest.TestCase):
     def test_every_function_that_others_can_call(self):
         self.assertGreater(len(list(sources.callable_functions(built.ROOT))), 40)
         self.assertEqual(faults(built.ROOT), [])
+
+    def test_nothing_else_stands_in_a_crate(self):
+        self.assertEqual(list(strays(built.ROOT)), [])
+        with tempfile.TemporaryDirectory() as folder:
+            for name in (*FILES, 'specs/Says.antt.orig', 'src/lib.rs', 'proofs/next/notes', 'next.edit'):
+                path = pathlib.Path(folder, 'crates/low', name)
+                path.parent.mkdir(parents=True, exist_ok=True)
+                path.touch()
+            self.assertEqual([name[len('crates/low/'):] for name in strays(pathlib.Path(folder))],
+                             ['next.edit', 'proofs/next/notes', 'specs/Says.antt.orig', 'src/lib.rs'])
 
     def test_what_is_missing_is_seen(self):
         self.assertEqual(self.of()[0], [])

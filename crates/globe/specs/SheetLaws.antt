@@ -3,7 +3,7 @@
 -- Assumes nothing.
 use mathlib.Core.Path.{_≡_, refl, sym, ap, subst, _∙_}
 use mathlib.Core.Logic.{_↔_, _⊎_, inl, inr, ⊎-elim}
-use mathlib.Core.Bool.{Bool, true, false, _&&_}
+use mathlib.Core.Bool.{Bool, true, false}
 use Prim.Native.Nat.{ℕ, zero, suc, _≤_, _<_}
 use native.Mathlib.Nat.{le-refl, div-zero}
 use native.Mathlib.Omega.{arith}
@@ -28,7 +28,7 @@ use Rattle.globe.specs.declared.Point.the-variants as Q
 use Rattle.globe.specs.declared.PointOut.{PointOut}
 use Rattle.refusals.specs.Refusal.{PLACE, MERIDIAN}
 use Rattle.refusals.specs.Choice.{unless, if_then_else_, answered}
-use Rattle.refusals.specs.Tests.{and-true, true-and, by-test, clash}
+use Rattle.refusals.specs.Tests.{and-true, true-and, and-yes, by-test, clash}
 use Rattle.ticks.specs.Ticks.{isLatitude, isLongitude, accepted, turned, offsetOf, pointRefusal, sheetRefusal}
 use Rattle.ticks.specs.TickLaws.{latitude-size, is-longitude, offset-longitude, sum-longitude, turn-back, back-turn, no-offset, sheet-accepted}
 use Rattle.globe.specs.Angle.{signedLongSine}
@@ -66,17 +66,13 @@ same-lon : {a b c d : ℤ} → Q.At a b ≡ Q.At c d → b ≡ d
 same-lon e = cc
 
 refused-point : {A : Type 0} {p : PointOut} → p ≡ noPoint PLACE → p .refusal ≡ 0 → A
-refused-point e z = let n : _≡_ {A = ℕ} 11 0 = sym (ap (λ (p : PointOut). p .refusal) e) ∙ z in absurd (omega arith)
+refused-point e z = let n : _≡_ {A = ℕ} PLACE 0 = sym (ap (λ (p : PointOut). p .refusal) e) ∙ z in absurd (omega arith)
 
 same-out : (p q : PointOut) → p .refusal ≡ q .refusal → p .latitude ≡ q .latitude → p .longitude ≡ q .longitude → p ≡ q
 same-out p q r a o =
     ap (λ (n : ℕ). record { refusal = n; latitude = p .latitude; longitude = p .longitude }) r
     ∙ ap (λ (z : ℤ). record { refusal = q .refusal; latitude = z; longitude = p .longitude }) a
     ∙ ap (λ (z : ℤ). record { refusal = q .refusal; latitude = q .latitude; longitude = z }) o
-
-and-yes : (t : Bool) → t && true ≡ t
-and-yes true = refl
-and-yes false = refl
 
 -- ---- where the width is 0
 

@@ -1,7 +1,7 @@
 -- Laws of the pieces of a text: how a search walks it, and how its pieces follow from the place of the first byte that parts them.
 -- Assumes nothing.
 use mathlib.Core.Path.{_≡_, refl, sym, ap, subst, _∙_}
-use mathlib.Core.Bool.{Bool, true, false, _&&_, _||_}
+use mathlib.Core.Bool.{true, false, _&&_, _||_}
 use mathlib.Core.List.{List, [], _∷_, _++_}
 use Prim.Native.Nat.{ℕ, zero, suc, _+_, _-_, _≤_, _<_}
 use native.Mathlib.Nat.{zero-add, add-zero, le-of-eq}
@@ -11,7 +11,7 @@ use borrow.Author.Tests.{lt-ltb, le-ltb, ltb-true, ltb-false, eq-eqb, eqb-true, 
 use lib.Dec.{T, eqb, ltb, leb·suc-suc}
 use lib.ListN.{length, take, drop, getD, length-drop, drop-of-length-le}
 use lib.Seq.{drop-cons, take-all, split-at}
-use Rattle.refusals.specs.Tests.{by-test, clash, and-true, and-no}
+use Rattle.refusals.specs.Tests.{by-test, clash, and-true, and-yes, and-no, or-yes}
 use Rattle.numbers.specs.Pieces.{onto, split, indexOf, holds, isByte, same}
 
 -- what `&s[a..]` holds
@@ -104,10 +104,6 @@ held-within b s e = ltb-true _ _ (sym (holds-index b s) ∙ e)
 pub none-held : (b : ℕ) (s : List ℕ) → holds b s ≡ false → length s ≤ indexOf b s
 none-held b s e = ltb-false _ _ (sym (holds-index b s) ∙ e)
 
-or-yes : (t : Bool) → t || true ≡ true
-or-yes true = refl
-or-yes false = refl
-
 pub holds-append : (b : ℕ) (s t : List ℕ) → holds b (s ++ t) ≡ holds b s || holds b t
 holds-append b [] t = refl
 holds-append b (x ∷ s) t =
@@ -166,10 +162,6 @@ split-some b (x ∷ s) =
     (λ t. rw t (onto-some x (split b s)))
 
 -- ---- tests of a piece
-
-and-yes : (t : Bool) → t && true ≡ t
-and-yes true = refl
-and-yes false = refl
 
 pub byte-one : (b : ℕ) (s : List ℕ) → length s ≡ 1 → isByte b s ≡ eqb (getD s 0 0) b
 byte-one b [] h = absurd (omega arith)

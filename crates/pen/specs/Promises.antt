@@ -12,7 +12,7 @@ use lib.IntN.{ℤ, pos, negℤ, _*ℤ_}
 use Rattle.signed.specs.Sides.{mul-neg}
 use Rattle.signed.specs.Tests.{eqZ, ne-eqZ}
 use Rattle.refusals.specs.Choice.{unless}
-use Rattle.refusals.specs.Tests.{by-test, clash, and-true, and-no}
+use Rattle.refusals.specs.Tests.{by-test, clash, and-true, and-no, or-yes}
 use Rattle.ticks.specs.Ticks.{isLatitude, isLongitude, offsetOf, pointRefusal, sheetRefusal}
 use Rattle.globe.specs.declared.Place.{Place}
 use Rattle.globe.specs.declared.Place.the-variants as P
@@ -43,10 +43,6 @@ beyond w x y = lt x (w .left) || lt (w .right) x || lt y (w .bottom) || lt (w .t
 
 -- ---- windows and divisors
 
-or-true : (p : Bool) → p || true ≡ true
-or-true true = refl
-or-true false = refl
-
 bad-window : (w : Window) → badWindow w ≡ not (isWindow w)
 bad-window w = go (lt (w .left) (w .right)) (lt (w .bottom) (w .top)) refl refl
   where
@@ -55,8 +51,8 @@ bad-window w = go (lt (w .left) (w .right)) (lt (w .bottom) (w .top)) refl refl
 
     go : (p q : Bool) → lt (w .left) (w .right) ≡ p → lt (w .bottom) (w .top) ≡ q → nans || not p || not q ≡ not (p && q)
     go true true e f = let x = no-nan _ _ e in let y = no-nan _ _ f in rw (x .0, x .1, y .0, y .1)
-    go true false e f = or-true (nans || false)
-    go false q e f = rw (or-true nans)
+    go true false e f = or-yes (nans || false)
+    go false q e f = rw (or-yes nans)
 
 all-four : (a b c d : Bool) {i j k l : Bool} → i ≡ not a → j ≡ not b → k ≡ not c → l ≡ not d → i && j && k && l ≡ not (a || b || c || d)
 all-four a b c d p q r t = rw (p, q, r, t) (go a b c d)

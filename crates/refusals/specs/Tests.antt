@@ -38,9 +38,17 @@ and-true false b e = clash e refl
 pub true-and : {a b : Bool} → a ≡ true → b ≡ true → a && b ≡ true
 true-and p q = rw (p, q)
 
+pub and-yes : (t : Bool) → t && true ≡ t
+and-yes true = refl
+and-yes false = refl
+
 pub and-no : (a b : Bool) → b ≡ false → a && b ≡ false
 and-no true b e = e
 and-no false b e = refl
+
+pub or-yes : (t : Bool) → t || true ≡ true
+or-yes true = refl
+or-yes false = refl
 
 pub or-false : (a b : Bool) → a || b ≡ false → (a ≡ false) × (b ≡ false)
 or-false true b e = clash refl e

@@ -17,6 +17,7 @@ use Rattle.globe.specs.Measure.{measureOf}
 use Rattle.globe.specs.MeasureLaws.{accepted-measured}
 use Rattle.globe.specs.Paper.{lengthPaper}
 use Rattle.numbers.specs.declared.Mark.{Mark}
+use Rattle.numbers.specs.declared.Mark.the-variants as M
 use Rattle.numerals.specs.OutputLaws.{Outcome, outcome, not-refused}
 use Rattle.route.specs.declared.Target.{Target}
 use Rattle.route.specs.declared.Target.the-variants as T
@@ -26,8 +27,21 @@ use Rattle.route.specs.Route.{readingOf, bufferOf}
 use Rattle.route.specs.Paper.{readingPaper}
 use Rattle.route.specs.Words.{paper}
 use Rattle.writer.specs.RouteText.{routeText, mostTarget, targetRefusal, textRefusal}
-use Rattle.writer.specs.Paper.{answer, left}
+use Rattle.writer.specs.Paper.{answer, left, targetOf, markOf}
 use Rattle.writer.specs.RouteTextLaws.{text-accepted, text-length, walk-back}
+
+-- ---- a target and a mark that are given in numbers
+
+-- n says whether there is a target, and what stands beside it is not looked at where there is none; n names the mark
+pub record Given (n mm : ℕ) : Type 0 where
+  pub no-target : n ≡ 0 → targetOf n mm ≡ T.None
+  pub a-target : 0 < n → targetOf n mm ≡ T.Millimetres mm
+  pub the-point : n ≡ 0 → markOf n ≡ M.Point
+  pub the-comma : 0 < n → markOf n ≡ M.Comma
+
+pub given : (n mm : ℕ) → Given n mm
+given zero mm = record { no-target = λ _. refl; a-target = λ h. absurd (omega arith); the-point = λ _. refl; the-comma = λ h. absurd (omega arith) }
+given (suc n) mm = record { no-target = λ h. absurd (omega arith); a-target = λ _. refl; the-point = λ h. absurd (omega arith); the-comma = λ _. refl }
 
 -- ---- which refusal
 
