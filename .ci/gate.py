@@ -13,7 +13,7 @@ import time
 # Each part, and how many things it has to count: one that is gone is missed, and one that is new is counted in here.
 # A part without a number is one thing.
 PARTS = (
-    ('rt ci', 193),  # crates and edits
+    ('rt ci', 200),  # crates and edits
     ('rt fmt --check', None),
     ('rt staticlib senruhobi', None),
     ('tests/run', 146),

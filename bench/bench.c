@@ -94,12 +94,12 @@ static void make_input(input *t, usual_input *d)
     d->sinusoidal = usual_sinusoidal(d->latitude, d->longitude, d->meridian);
 }
 
-/* Whatever is asked of a refused input, its latitude or its meridian forbids. */
+/* Whatever is asked of a refused input, its latitude, its longitude or its meridian forbids. */
 static void make_inputs(void)
 {
     for (int i = 0; i < CALLS; i++) {
         make_input(&accepted[i], &degrees[i]);
-        refused[i] = (input){.latitude = QUARTER + 1, .meridian = HALF_TURN};
+        refused[i] = (input){.latitude = QUARTER + 1, .longitude = HALF_TURN + 1, .meridian = HALF_TURN};
     }
 }
 
@@ -184,8 +184,8 @@ static uint64_t bits(double x)
 #define POINT a.refusal + (uint64_t)a.latitude + 3 * (uint64_t)a.longitude
 #define STEP pen_step(in->pen, -EDGE, EDGE, -EDGE, EDGE, DIVISOR, in->meridian, in->latitude, in->longitude, in->third)
 
-EXACT(long_sine, senruhobi_sine, long_sine(in->latitude), a.refusal + (uint64_t)a.value)
-EXACT(short_sine, senruhobi_sine, short_sine(in->latitude), a.refusal + (uint64_t)a.value)
+EXACT(long_sine, senruhobi_sine, long_sine(in->longitude), a.refusal + (uint64_t)a.value)
+EXACT(short_sine, senruhobi_sine, short_sine(in->longitude), a.refusal + (uint64_t)a.value)
 EXACT(cylindrical, senruhobi_place, cylindrical(in->latitude, in->longitude, in->meridian), PLACE)
 EXACT(sinusoidal, senruhobi_place, sinusoidal(in->latitude, in->longitude, in->meridian), PLACE)
 EXACT(cylindrical_back, senruhobi_point, cylindrical_back(in->cylindrical.x, in->cylindrical.y, in->meridian), POINT)
@@ -193,8 +193,8 @@ EXACT(sinusoidal_back, senruhobi_point, sinusoidal_back(in->sinusoidal.x, in->si
 EXACT(leg, senruhobi_length, leg(in->latitude, in->longitude, in->latitude2, in->longitude2), a.refusal + a.millimetres)
 EXACT(pen_step, senruhobi_step, STEP, a.refusal + a.stroke + a.pen + bits(a.x) + 3 * bits(a.y))
 
-USUAL(long_sine, usual_number, sine(in->latitude), a.refused + a.value)
-USUAL(short_sine, usual_number, sine(in->latitude), a.refused + a.value)
+USUAL(long_sine, usual_number, sine(in->longitude), a.refused + a.value)
+USUAL(short_sine, usual_number, sine(in->longitude), a.refused + a.value)
 USUAL(cylindrical, usual_place, cylindrical(in->latitude, in->longitude, in->meridian), a.refused + a.x + a.y)
 USUAL(sinusoidal, usual_place, sinusoidal(in->latitude, in->longitude, in->meridian), a.refused + a.x + a.y)
 USUAL(cylindrical_back, usual_point, cylindrical_back(in->cylindrical.x, in->cylindrical.y, in->meridian),

@@ -33,6 +33,11 @@ static int is_longitude(int64_t z)
     return -HALF_TURN <= z && z < HALF_TURN;
 }
 
+static int is_angle(int64_t z)
+{
+    return -HALF_TURN <= z && z <= HALF_TURN;
+}
+
 static uint32_t point_refusal(int32_t latitude, int32_t longitude)
 {
     return !is_latitude(latitude) ? LATITUDE : !is_longitude(longitude) ? LONGITUDE : 0;
@@ -73,18 +78,24 @@ static int64_t signed_long_sine(int32_t a)
     return a < 0 ? -sine : sine;
 }
 
+/* Of an angle up to 180 degrees: beyond 90, the sine of 180 less the angle. */
+static int64_t long_around(int32_t a)
+{
+    return signed_long_sine(a > QUARTER ? HALF_TURN - a : a < -QUARTER ? -HALF_TURN - a : a);
+}
+
 senruhobi_sine twin_long_sine(int32_t angle)
 {
-    if (!is_latitude(angle))
+    if (!is_angle(angle))
         return (senruhobi_sine){.refusal = LATITUDE};
-    return (senruhobi_sine){.value = signed_long_sine(angle)};
+    return (senruhobi_sine){.value = long_around(angle)};
 }
 
 senruhobi_sine twin_short_sine(int32_t angle)
 {
-    if (!is_latitude(angle))
+    if (!is_angle(angle))
         return (senruhobi_sine){.refusal = LATITUDE};
-    return (senruhobi_sine){.value = signed_long_sine(angle) / SHORTENING};
+    return (senruhobi_sine){.value = long_around(angle) / SHORTENING};
 }
 
 /* Two sheets */

@@ -25,6 +25,11 @@ static int is_longitude(double degrees)
     return -180 <= degrees && degrees < 180;
 }
 
+static int is_angle(double degrees)
+{
+    return -180 <= degrees && degrees <= 180;
+}
+
 static int is_point(double latitude, double longitude)
 {
     return is_latitude(latitude) && is_longitude(longitude);
@@ -37,7 +42,7 @@ static double into_turn(double degrees)
 
 usual_number usual_sine(double angle)
 {
-    if (!is_latitude(angle))
+    if (!is_angle(angle))
         return (usual_number){.refused = 1};
     return (usual_number){.value = sin(angle * RADIAN)};
 }

@@ -48,7 +48,7 @@ typedef enum {
     SENRUHOBI_REFUSED_LINE = 3, /* another line has an unknown kind, the wrong number of fields, or no LF */
     SENRUHOBI_REFUSED_NUMBER = 4, /* a number breaks its rule */
     SENRUHOBI_REFUSED_MARK = 5, /* a number holds the mark that line 1 did not name */
-    SENRUHOBI_REFUSED_LATITUDE = 6, /* latitude, or the angle for a sine, is out of range (-90 to 90 degrees, both allowed) */
+    SENRUHOBI_REFUSED_LATITUDE = 6, /* latitude out of range (-90 to 90 degrees, both allowed), or the angle for a sine (-180 to 180, both allowed) */
     SENRUHOBI_REFUSED_LONGITUDE = 7, /* longitude out of range (-180 degrees up to but not including 180) */
     SENRUHOBI_REFUSED_ORDER = 8, /* `t` or `g` in a wrong place; a last `g` names its own line */
     SENRUHOBI_REFUSED_POINTS = 9, /* the 1,001st `p` line; more than 1,000 points in a buffer */
@@ -80,7 +80,7 @@ typedef struct { uint32_t refusal, line, points, has_target; uint64_t length, ta
 typedef struct { uint32_t refusal; uint64_t bytes; } senruhobi_written;
 typedef struct { uint32_t refusal, stroke; double x, y; uint32_t pen /* 0 up, 1 down */; } senruhobi_step;
 
-/* 10^13 times the sine of an angle from -90 to 90 degrees, and 10^9 times it. Refusal: 6. */
+/* 10^13 times the sine of an angle from -180 to 180 degrees, both allowed, and 10^9 times it. Refusal: 6. */
 senruhobi_sine senruhobi_long_sine(int32_t angle);
 senruhobi_sine senruhobi_short_sine(int32_t angle);
 

@@ -21,11 +21,12 @@ TOO_MUCH_ROOM = model.MOST_NUMBERS + NUMBERS
 # At the limits
 
 def sines():
-    """The angles at and beside limits, entries of the table and places where the short sine changes."""
+    """The angles at and beside limits, entries of the table and places where the short sine changes: north, south, and beyond 90 degrees."""
     beside = {k * STEP + off for k in (1, 2, 1499, 1500, 2999, 4499) for off in (-1, 0, 1)}
     ends = {*range(10), *range(QUARTER - 9, QUARTER + 1), *range(QUARTER - 3_285, QUARTER - 3_280)}
+    half = {angle for near in beside | ends for angle in (near, HALF_TURN - near)}
     for sine in ('long_sine', 'short_sine'):
-        yield from ((sine, angle) for angle in sorted({*LATITUDES, *beside, *ends, *(-angle for angle in beside | ends)}))
+        yield from ((sine, angle) for angle in sorted({*LATITUDES, *LONGITUDES, *half, *(-angle for angle in half)}))
 
 
 def sheets():
@@ -159,7 +160,7 @@ def accepted_meridian(some):
 
 
 def random_sine(some):
-    return some.choice(['long_sine', 'short_sine']), ticks(some, QUARTER)
+    return some.choice(['long_sine', 'short_sine']), ticks(some, some.choice([QUARTER, HALF_TURN]))
 
 
 def random_place(some):

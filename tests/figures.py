@@ -27,7 +27,16 @@ SINES = {
     # the 3,282 ticks below 90 degrees share a short sine
     ('short_sine', 899_999_999): (0, 999_999_999), ('short_sine', 900_000_000 - 3_282): (0, 999_999_999),
     ('short_sine', 900_000_000 - 3_283): (0, 999_999_998),
-    **{(sine, angle): (6, 0) for sine in ('long_sine', 'short_sine') for angle in (LEAST, -900_000_001, 900_000_001, GREATEST)},
+    # "beyond 90, the sine of 180 less the angle; odd as before"
+    ('long_sine', 1_500_000_000): (0, 5 * 10**12), ('short_sine', 1_500_000_000): (0, 5 * 10**8), ('long_sine', -1_500_000_000): (0, -5 * 10**12),
+    ('long_sine', 1_799_800_000): (0, 3_490_658_433), ('long_sine', 1_799_999_999): (0, 17_453), ('short_sine', 1_799_999_999): (0, 1),
+    ('long_sine', -1_799_999_999): (0, -17_453), ('short_sine', -1_799_999_999): (0, -1),
+    # "-180 to 180 degrees, both allowed"; "6 for a sine only beyond 180 degrees"
+    **{(sine, angle): (0, 0) for sine in ('long_sine', 'short_sine') for angle in (-1_800_000_000, 1_800_000_000)},
+    **{(sine, angle): (6, 0) for sine in ('long_sine', 'short_sine') for angle in (LEAST, -1_800_000_001, 1_800_000_001, GREATEST)},
+    # the 3,282 ticks beyond 90 degrees share the short sine of those below
+    **{('short_sine', sign * (900_000_000 + off)): (0, sign * 999_999_999) for sign in (1, -1) for off in (1, 3_282)},
+    ('short_sine', 900_000_000 + 3_283): (0, 999_999_998), ('short_sine', -900_000_000 - 3_283): (0, -999_999_998),
 }
 SHEETS = {
     ('cylindrical', 300_000_000, 100_000_000, 0): (0, 100_000_000, 5 * 10**12),

@@ -3,7 +3,7 @@ report, the pen, and the doors for C over all of these.
 
 Each rule is written from the document's sentence, which stands above it in quotes, and not from the Rattle definitions. So the tests hold
 the compiled code to a second reading of the same page. What refuses a point buffer, and how a route is written, is quoted from the first of
-the later requests. Nothing here is quick.
+the later requests, and which angles have a sine from the second. Nothing here is quick.
 """
 import math
 import re
@@ -49,6 +49,9 @@ def long_sine(angle):
     # "A negative angle gives the negative of its opposite."
     if angle < 0:
         return -long_sine(-angle)
+    # "beyond 90, the sine of 180 less the angle"
+    if angle > QUARTER:
+        return long_sine(HALF_TURN - angle)
     # "at 90 degrees the last entry"
     if angle == QUARTER:
         return ENTRIES[-1]
@@ -75,6 +78,11 @@ def latitude_in_range(latitude):
 def longitude_in_range(longitude):
     # "from -1,800,000,000, allowed, up to but not including 1,800,000,000"
     return -HALF_TURN <= longitude < HALF_TURN
+
+
+def angle_in_range(angle):
+    # "Long and short sine now accept -180 to 180 degrees, both allowed"
+    return -HALF_TURN <= angle <= HALF_TURN
 
 
 # Two sheets
@@ -353,8 +361,8 @@ def bad_divisor(divisor):
 
 
 def sine_door(sine, angle):
-    # "6: latitude (or an angle for sine) out of range"
-    return (0, sine(angle)) if latitude_in_range(angle) else (6, 0)
+    # "6 for a sine only beyond 180 degrees"
+    return (0, sine(angle)) if angle_in_range(angle) else (6, 0)
 
 
 def sheet_door(sheet, latitude, longitude, meridian):

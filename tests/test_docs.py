@@ -44,10 +44,10 @@ def figures(accuracy, bench):
     return [f'{math.ceil(near)} mm in legs of up to 100 km',
             f'{pole / 1e3:.0f} m in a leg of 1 km close to a pole',
             f'{antipode / 1e6:.2f} km in one that leads nearly to the other side',
-            f'a call takes some {sum(calls) / len(calls) / 1e3:.0f} microseconds',
+            f'a call takes some {sum(calls) / len(calls) / 1e3:.1f} microseconds',
             f'a route of 1,000 points takes some {row(bench, "read_route, near, joined")[0] / 1e6:.1f} milliseconds',
             f'writing it back, which needs no table, some {row(bench, "write_route, near")[0] / 1e6:.2f}, ',
-            f'point by point, some {row(bench, "pen_step")[0] / 1e3:.0f} milliseconds']
+            f'point by point, some {row(bench, "pen_step")[0] / 1e3:.1f} milliseconds']
 
 
 class Docs(unittest.TestCase):

@@ -31,8 +31,8 @@ REFUSALS = {
 }
 
 BAD_POINT, BAD_POINTS, BAD_THIRDS, DRAWN, GREATEST_ANGLE = model.bad_point, model.bad_points, model.bad_thirds, model.drawn, model.greatest_angle
-LINES_OF, MEASURE_DOOR, NUMBER_OF, PEN_DOOR, READ = model.lines_of, model.measure_door, model.number_of, model.pen_door, model.read
-NUMBER_TEXT, ROUTE_TEXT, WRITE_DOOR = model.number_text, model.route_text, model.write_door
+LINES_OF, LONG_SINE, MEASURE_DOOR, NUMBER_OF, PEN_DOOR = model.lines_of, model.long_sine, model.measure_door, model.number_of, model.pen_door
+NUMBER_TEXT, READ, ROUTE_TEXT, WRITE_DOOR = model.number_text, model.read, model.route_text, model.write_door
 
 
 def rounded_sinusoidal(latitude, longitude, meridian):
@@ -130,6 +130,14 @@ def every_target(numbers, has_target, target, *more):
 WRONG = [
     ('latitude_in_range', lambda latitude: abs(latitude) < QUARTER),
     ('longitude_in_range', lambda longitude: abs(longitude) <= HALF_TURN),
+    # 180 degrees refused, -180 alone accepted, a tick more accepted; the range of a latitude widened with that of a sine
+    ('angle_in_range', lambda angle: abs(angle) < HALF_TURN),
+    ('angle_in_range', model.longitude_in_range),
+    ('angle_in_range', lambda angle: abs(angle) <= HALF_TURN + 1),
+    ('latitude_in_range', model.angle_in_range),
+    # the sine beyond 90 degrees taken as that of 90, and even there
+    ('long_sine', lambda angle: LONG_SINE(max(-QUARTER, min(angle, QUARTER)))),
+    ('long_sine', lambda angle: LONG_SINE(angle if abs(angle) <= QUARTER else abs(angle))),
     ('ENTRIES', [*ENTRIES[:4499], ENTRIES[4499] + 1, ENTRIES[4500]]),
     ('dropped', lambda number, by: number // by),
     ('turned', lambda angle: angle),
@@ -268,9 +276,12 @@ class Figures(unittest.TestCase):
         self.assertEqual(differing(self.given, modelled(self.given), self.lines), [])
 
     def test_the_table(self):
-        # every entry, by the long sine there
-        said = doors.answers([('long_sine', k * STEP) for k in range(4501)])
-        self.assertEqual(said, [f'0 {entry}' for entry in ENTRIES])
+        # every entry, by the long sine there, in each quarter: "beyond 90, the sine of 180 less the angle; odd as before"
+        angles = range(0, QUARTER + 1, STEP)
+        for sign in (-1, 1):
+            for quarter in (angles, [HALF_TURN - angle for angle in angles]):
+                said = doors.answers([('long_sine', sign * angle) for angle in quarter])
+                self.assertEqual(said, [f'0 {sign * entry}' for entry in ENTRIES])
         entries = [int(line.split()[1]) for line in said]
         self.assertEqual(min(after - before for before, after in zip(entries, entries[1:])), 609_235)
         bends = [(before + after - 2 * entry) * 10**20 + 12_184_696_667_746 * entry

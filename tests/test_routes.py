@@ -214,6 +214,7 @@ class Model(unittest.TestCase):
     def test_sines(self):
         self.assertEqual([model.ENTRIES[k] for k in (0, 1, 1500, 4500)], [0, 3_490_658_433, 5 * 10**12, 10**13])
         self.assertEqual([model.long_sine(1), model.short_sine(1), model.long_sine(-1), model.short_sine(-1)], [17_453, 1, -17_453, -1])
+        self.assertEqual([model.long_sine(150 * sign * model.DEGREE) for sign in (1, -1)], [5 * 10**12, -5 * 10**12])
         self.assertEqual([model.short_cosine(model.QUARTER - k) for k in range(6)], [0, 1, 3, 5, 6, 8])
         # "greatest angle" matters below 90 degrees: 3,282 ticks there share one short sine
         self.assertEqual([model.greatest_angle(10**9 - k) for k in (0, 1, 2)], [model.QUARTER, model.QUARTER - 1, model.QUARTER - 3_283])

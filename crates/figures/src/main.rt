@@ -104,9 +104,35 @@ fn long_sines() {
     );
 }
 
+fn long_sines_around() {
+    sine(b"long sine of 150 degrees", globe::long_sine(1_500_000_000));
+    sine(
+        b"long sine of -150 degrees",
+        globe::long_sine(-1_500_000_000),
+    );
+    sine(
+        b"long sine of 179.9999999 degrees",
+        globe::long_sine(EAST - 1),
+    );
+    sine(b"long sine of 180 degrees", globe::long_sine(EAST));
+    sine(b"long sine of -180 degrees", globe::long_sine(WEST));
+    sine(
+        b"long sine of 180.0000001 degrees",
+        globe::long_sine(EAST + 1),
+    );
+    sine(
+        b"long sine of the least number",
+        globe::long_sine(-2_147_483_648),
+    );
+}
+
 fn short_sines() {
     sine(b"short sine of 1 tick", globe::short_sine(1));
     sine(b"short sine of -1 tick", globe::short_sine(-1));
+    sine(
+        b"short sine of -179.9999999 degrees",
+        globe::short_sine(WEST + 1),
+    );
 }
 
 fn cylindrical() {
@@ -363,6 +389,7 @@ fn route_refusals() {
 
 fn main() {
     long_sines();
+    long_sines_around();
     short_sines();
     cylindrical();
     cylindrical_refusals();

@@ -1,4 +1,4 @@
--- The sine of an angle from -90 to 90 degrees, and the cosine of a latitude.
+-- The sine of an angle from -180 to 180 degrees, and the cosine of a latitude.
 -- Assumes nothing.
 use Prim.Native.Nat.{ℕ, _-_}
 use lib.IntN.{ℤ, pos, natAbs}
@@ -9,9 +9,9 @@ use Rattle.globe.specs.declared.Sine.{Sine}
 use Rattle.globe.specs.declared.Sine.the-variants.{Value, Refused}
 use Rattle.refusals.specs.Refusal.{LATITUDE}
 use Rattle.refusals.specs.Choice.{unless}
-use Rattle.ticks.specs.Ticks.{isLatitude}
+use Rattle.ticks.specs.Ticks.{isAngle, folded}
 
--- "A negative angle gives the negative of its opposite."
+-- from -90 to 90 degrees: "A negative angle gives the negative of its opposite."
 abbrev pub signedLongSine : ℤ → ℤ
 signedLongSine a = signAs a (longSine (natAbs a))
 
@@ -19,10 +19,17 @@ signedLongSine a = signAs a (longSine (natAbs a))
 unfoldable pub shortCosine : ℤ → ℕ
 shortCosine lat = shortSine (quarter - natAbs lat)
 
--- what is answered: the sine, or 6
-unfoldable pub longSineOf : ℤ → Sine
-longSineOf a = unless (isLatitude a) (Refused LATITUDE) (Value (signedLongSine a))
+-- "beyond 90, the sine of 180 less the angle"
+abbrev pub longAround : ℤ → ℤ
+longAround a = signedLongSine (folded a)
 
 -- "long sine divided by 10,000, dropping toward zero"
+abbrev pub shortAround : ℤ → ℤ
+shortAround a = quotZ (longAround a) (pos shortening)
+
+-- what is answered: the sine, or "6 for a sine only beyond 180 degrees"
+unfoldable pub longSineOf : ℤ → Sine
+longSineOf a = unless (isAngle a) (Refused LATITUDE) (Value (longAround a))
+
 unfoldable pub shortSineOf : ℤ → Sine
-shortSineOf a = unless (isLatitude a) (Refused LATITUDE) (Value (quotZ (signedLongSine a) (pos shortening)))
+shortSineOf a = unless (isAngle a) (Refused LATITUDE) (Value (shortAround a))

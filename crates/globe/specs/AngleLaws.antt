@@ -5,13 +5,13 @@ use mathlib.Core.Bool.{true}
 use Prim.Native.Nat.{ℕ, zero, suc, _-_, _≤_, _<_}
 use native.Mathlib.Omega.{arith}
 use lib.IntN.{ℤ, pos, negsuc, negℤ, natAbs}
-use lib.Signed.{ltZ, leZ, quotZ}
+use lib.Signed.{ltZ, leZ}
 use borrow.Author.Tests.{ltb-true, lt-ltb, le-leb}
 use Rattle.signed.specs.Sides.{neg-above, neg-below}
 use Rattle.signed.specs.Tests.{lt-ltZ}
 use Rattle.signed.specs.SignLaws.{as-size}
 use Rattle.sines.specs.Table.{unit}
-use Rattle.sines.specs.Sine.{quarter, longSine, shortening, shortUnit}
+use Rattle.sines.specs.Sine.{quarter, longSine, shortUnit}
 use Rattle.sines.specs.SineLaws.{longSine-zero, longSine-top, longSine-lt, shortSine-top, shortSine-some}
 use Rattle.refusals.specs.Choice.{answered}
 use Rattle.ticks.specs.Ticks.{isLatitude}
@@ -22,10 +22,6 @@ use Rattle.globe.specs.Angle.{signedLongSine, shortCosine}
 pub refused : {A : Type 0} (f : ℕ → A) (r : ℕ) (v : A) → (r ≡ 0 → ⊥) → f r ≡ answered r f v
 refused f zero v n = absurd (n refl)
 refused f (suc r) v n = refl
-
--- the short sine with its sign
-abbrev pub signedShortSine : ℤ → ℤ
-signedShortSine a = quotZ (signedLongSine a) (pos shortening)
 
 pub cosine-top : (lat : ℤ) → shortCosine lat ≤ shortUnit
 unfolding shortCosine

@@ -13,7 +13,7 @@ use Rattle.sines.specs.Back.{greatestAngle}
 use Rattle.sines.specs.Figures.{long-30, long-tenth, greatest-1, greatest-tenth, greatest-90}
 use Rattle.globe.specs.declared.Place.the-variants.{At}
 use Rattle.globe.specs.declared.Length.the-variants.{Millimetres}
-use Rattle.ticks.specs.Ticks.{offsetOf, pointRefusal}
+use Rattle.ticks.specs.Ticks.{offsetOf, folded, pointRefusal}
 use Rattle.globe.specs.Angle.{shortCosine, longSineOf, shortSineOf}
 use Rattle.globe.specs.AngleLaws.{cosine-pole}
 use Rattle.globe.specs.Sheet.{cylinder, sinusoid, cylindricalOf, sinusoidalOf, cylindricalBackOf, sinusoidalBackOf}
@@ -30,13 +30,22 @@ long-2 = refl
 
 -- "long sine of 1 tick is 17,453"
 pub long-1 : sinePaper (longSineOf (pos 1)) ≡ record { refusal = 0; value = pos 17_453 }
-unfolding longSineOf
+unfolding longSineOf folded
 long-1 = rw longSine-tick
 
 -- "short sine 1"
 pub short-1 : sinePaper (shortSineOf (pos 1)) ≡ record { refusal = 0; value = pos 1 }
-unfolding shortSineOf
+unfolding shortSineOf folded
 short-1 = rw longSine-tick
+
+-- a tick less than 180 degrees, 150 degrees the other way, and a tick more than 180 degrees either way
+pub long-round : (sinePaper (longSineOf (pos 1_799_999_999)) ≡ record { refusal = 0; value = pos 17_453 })
+    × (sinePaper (longSineOf (negℤ (pos 1_500_000_000))) ≡ record { refusal = 0; value = negℤ (pos 5_000_000_000_000) })
+    × (sinePaper (longSineOf (pos 1_800_000_001)) ≡ record { refusal = 6; value = pos 0 })
+    × (sinePaper (longSineOf (negℤ (pos 1_800_000_001))) ≡ record { refusal = 6; value = pos 0 })
+unfolding longSineOf folded
+long-round =
+    (ap (λ (n : ℕ). record { refusal = 0; value = pos n }) longSine-tick, ap (λ (n : ℕ). record { refusal = 0; value = negℤ (pos n) }) long-30, refl, refl)
 
 -- ---- the cylindrical sheet, with meridian 0
 

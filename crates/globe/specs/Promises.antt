@@ -21,8 +21,8 @@ use Rattle.sines.specs.Sine.{quarter, longSine, shortening, shortUnit, shortSin
 use Rattle.sines.specs.SineLaws.{between, a-step, in-row, longSine-zero, longSine-quarter}
 use Rattle.sines.specs.Back.{greatestAngle}
 use Rattle.sines.specs.BackLaws.{greatestAngle-meets}
-use Rattle.ticks.specs.Ticks.{isLatitude, isLongitude, accepted, offsetOf, pointRefusal, sheetRefusal}
-use Rattle.ticks.specs.TickLaws.{latitude-size, size-latitude, is-longitude, offset-longitude}
+use Rattle.ticks.specs.Ticks.{isLatitude, isLongitude, isAngle, folded, accepted, offsetOf, pointRefusal, sheetRefusal}
+use Rattle.ticks.specs.TickLaws.{size-latitude, size-angle, latitude-angle, is-longitude, offset-longitude, folded-latitude, folded-self, folded-supplement, angle-mirror, folded-mirror}
 use Rattle.points.specs.Points.{pointNumbers, count, thirdsFit, pointsRefusal, bufferRefusal}
 use Rattle.points.specs.PointLaws as B
 use Rattle.globe.specs.declared.Sine.{Sine}
@@ -35,7 +35,7 @@ use Rattle.globe.specs.declared.Point.the-variants as Q
 use Rattle.globe.specs.declared.Length.{Length}
 use Rattle.globe.specs.declared.Length.the-variants as L
 use Rattle.globe.specs.declared.LengthOut.{LengthOut}
-use Rattle.globe.specs.Angle.{signedLongSine, shortCosine, longSineOf, shortSineOf}
+use Rattle.globe.specs.Angle.{signedLongSine, shortCosine, longAround, shortAround, longSineOf, shortSineOf}
 use Rattle.globe.specs.AngleLaws as A
 use Rattle.globe.specs.Sheet.{Sheet, cylinder, sinusoid, placeOf, cylindricalOf, sinusoidalOf}
 use Rattle.globe.specs.SheetLaws.{place-is, times-one}
@@ -69,28 +69,60 @@ length-zero (L.Refused r) n = refl
 abbrev noSine : ℕ → SineOut
 noSine n = record { refusal = n; value = pos 0 }
 
--- 6: "latitude (or an angle for sine) out of range"
-pub long-refused : (a : ℤ) → isLatitude a ≡ false → sinePaper (longSineOf a) ≡ noSine LATITUDE
+abbrev aSine : ℤ → SineOut
+aSine v = record { refusal = 0; value = v }
+
+-- "6 for a sine only beyond 180 degrees"
+pub long-refused : (a : ℤ) → isAngle a ≡ false → sinePaper (longSineOf a) ≡ noSine LATITUDE
 unfolding longSineOf
 long-refused a h = rw h
 
-pub short-refused : (a : ℤ) → isLatitude a ≡ false → sinePaper (shortSineOf a) ≡ noSine LATITUDE
+pub short-refused : (a : ℤ) → isAngle a ≡ false → sinePaper (shortSineOf a) ≡ noSine LATITUDE
 unfolding shortSineOf
 short-refused a h = rw h
 
-long-is : (a : ℤ) → isLatitude a ≡ true → sinePaper (longSineOf a) ≡ record { refusal = 0; value = signedLongSine a }
+long-is : (a : ℤ) → isAngle a ≡ true → sinePaper (longSineOf a) ≡ aSine (longAround a)
 unfolding longSineOf
 long-is a h = rw h
 
-short-is : (a : ℤ) → isLatitude a ≡ true → sinePaper (shortSineOf a) ≡ record { refusal = 0; value = quotZ (signedLongSine a) (pos shortening) }
+short-is : (a : ℤ) → isAngle a ≡ true → sinePaper (shortSineOf a) ≡ aSine (shortAround a)
 unfolding shortSineOf
 short-is a h = rw h
 
-pub long-accepted : (a : ℤ) → isLatitude a ≡ true → sinePaper (longSineOf a) .refusal ≡ 0
+pub long-accepted : (a : ℤ) → isAngle a ≡ true → sinePaper (longSineOf a) .refusal ≡ 0
 long-accepted a h = rw (long-is a h)
 
-pub short-accepted : (a : ℤ) → isLatitude a ≡ true → sinePaper (shortSineOf a) .refusal ≡ 0
+pub short-accepted : (a : ℤ) → isAngle a ≡ true → sinePaper (shortSineOf a) .refusal ≡ 0
 short-accepted a h = rw (short-is a h)
+
+-- "Points, sheets, lengths and reader stay as before": from -90 to 90 degrees the sines are those that the sheets take
+pub long-as-before : (a : ℤ) → isLatitude a ≡ true → sinePaper (longSineOf a) ≡ aSine (signedLongSine a)
+long-as-before a h = long-is a (latitude-angle a h) ∙ ap (λ (z : ℤ). aSine (signedLongSine z)) (folded-self a h)
+
+pub short-as-before : (a : ℤ) → isLatitude a ≡ true → sinePaper (shortSineOf a) ≡ aSine (quotZ (signedLongSine a) (pos shortening))
+short-as-before a h = short-is a (latitude-angle a h) ∙ ap (λ (z : ℤ). aSine (quotZ (signedLongSine z) (pos shortening))) (folded-self a h)
+
+-- "beyond 90, the sine of 180 less the angle"
+module _ (a : ℕ) (h : a ≤ 1_800_000_000) where
+  abbrev less : ℤ
+  less = pos (1_800_000_000 - a)
+
+  both : (isAngle less ≡ true) × (isAngle (pos a) ≡ true)
+  both = (size-angle less (omega arith), size-angle (pos a) h)
+
+  pub long-supplement : sinePaper (longSineOf less) ≡ sinePaper (longSineOf (pos a))
+  long-supplement = long-is less (both .0) ∙ ap (λ (z : ℤ). aSine (signedLongSine z)) (folded-supplement a h) ∙ sym (long-is (pos a) (both .1))
+
+  pub short-supplement : sinePaper (shortSineOf less) ≡ sinePaper (shortSineOf (pos a))
+  short-supplement =
+      short-is less (both .0) ∙ ap (λ (z : ℤ). aSine (quotZ (signedLongSine z) (pos shortening))) (folded-supplement a h) ∙ sym (short-is (pos a) (both .1))
+
+-- of 180 degrees it is 0, whichever way round
+pub long-180 : (sinePaper (longSineOf (pos 1_800_000_000)) ≡ aSine (pos 0)) × (sinePaper (longSineOf (negℤ (pos 1_800_000_000))) ≡ aSine (pos 0))
+unfolding folded
+long-180 =
+    let none = ap (λ (n : ℕ). aSine (pos n)) longSine-zero in
+    (long-is (pos 1_800_000_000) refl ∙ none, long-is (negℤ (pos 1_800_000_000)) refl ∙ none)
 
 -- "entry k plus the floor of f × (entry k+1 - entry k) / 200,000", without a division or a difference
 pub long-between : (k f : ℕ) → k < 4_500 → f < 200_000 → let s = sinePaper (longSineOf (pos (k * 200_000 + f))) in let v = natAbs (s .value) in
@@ -102,30 +134,25 @@ long-between k f h l =
     let gap = entry (k + 1) - entry k in
     let g : entry (k + 1) ≡ entry k + gap = omega (arith, growth k h) in
     let e = ap (λ (n : ℕ). f * n) g in
-    rw (long-is (pos (k * 200_000 + f)) (size-latitude (pos (k * 200_000 + f)) (omega arith)), in-row a-step k l) (refl, omega arith, omega arith)
+    rw (long-as-before (pos (k * 200_000 + f)) (size-latitude (pos (k * 200_000 + f)) (omega arith)), in-row a-step k l) (refl, omega arith, omega arith)
 
 -- "at 90 degrees the last entry"
 pub long-90 : sinePaper (longSineOf (pos 900_000_000)) ≡ record { refusal = 0; value = pos (entry 4_500) }
-long-90 = long-is (pos 900_000_000) refl ∙ rw (longSine-quarter, last)
+long-90 = long-as-before (pos 900_000_000) refl ∙ rw (longSine-quarter, last)
 
 -- "Long sine lies within ±10^13 and is strictly increasing over ticks."
 pub long-within : (a : ℤ) → natAbs (sinePaper (longSineOf a) .value) ≤ 10_000_000_000_000
-long-within a = by-test (isLatitude a) (λ h. rw (long-is a h) (A.long-within a h)) (λ h. rw (long-refused a h) (omega arith))
+long-within a = by-test (isAngle a) (λ h. rw (long-is a h) (A.long-within (folded a) (folded-latitude a h))) (λ h. rw (long-refused a h) (omega arith))
 
 pub long-rising : (a b : ℤ) → isLatitude a ≡ true → isLatitude b ≡ true → ltZ a b ≡ true
     → ltZ (sinePaper (longSineOf a) .value) (sinePaper (longSineOf b) .value) ≡ true
-long-rising a b h k t = rw (long-is a h, long-is b k) (A.long-rising a b h k t)
+long-rising a b h k t = rw (long-as-before a h, long-as-before b k) (A.long-rising a b h k t)
 
 -- "A negative angle gives the negative of its opposite."
-mirror : (a : ℤ) → isLatitude (negℤ a) ≡ isLatitude a
+mirror : (a : ℤ) → isAngle (negℤ a) ≡ isAngle a
 mirror a =
-    by-test (isLatitude a) (λ t. size-latitude (negℤ a) (rw (size a) (latitude-size a t)) ∙ sym t)
-    (λ f. by-test (isLatitude (negℤ a)) (λ t. clash (size-latitude a (rw (size a) at (latitude-size (negℤ a) t))) f) (λ g. g ∙ sym f))
-  where
-    size : (a : ℤ) → natAbs (negℤ a) ≡ natAbs a
-    size (pos zero) = refl
-    size (pos (suc n)) = refl
-    size (negsuc n) = refl
+    by-test (isAngle a) (λ t. angle-mirror a t ∙ sym t)
+    (λ f. by-test (isAngle (negℤ a)) (λ t. clash (rw (negℤ-negℤ a) at (angle-mirror (negℤ a) t)) f) (λ g. g ∙ sym f))
 
 sine-mirror : (a : ℤ) → signedLongSine (negℤ a) ≡ negℤ (signedLongSine a)
 sine-mirror (pos zero) = rw longSine-zero
@@ -134,12 +161,12 @@ sine-mirror (negsuc n) = sym (negℤ-negℤ (pos (longSine (suc n))))
 
 pub long-odd : (a : ℤ) → sinePaper (longSineOf (negℤ a)) .value ≡ negℤ (sinePaper (longSineOf a) .value)
 long-odd a =
-    by-test (isLatitude a) (λ h. rw (long-is a h, long-is (negℤ a) (mirror a ∙ h)) (sine-mirror a))
+    by-test (isAngle a) (λ h. rw (long-is a h, long-is (negℤ a) (mirror a ∙ h), folded-mirror a h) (sine-mirror (folded a)))
     (λ h. rw (long-refused a h, long-refused (negℤ a) (mirror a ∙ h)))
 
 of-long : (a : ℤ) → sinePaper (shortSineOf a) .value ≡ quotZ (sinePaper (longSineOf a) .value) (pos shortening)
 unfolding longSineOf shortSineOf
-of-long a = by-test (isLatitude a) (λ h. rw h) (λ h. rw h (ap pos (sym (zero-div shortening))))
+of-long a = by-test (isAngle a) (λ h. rw h) (λ h. rw h (ap pos (sym (zero-div shortening))))
 
 pub short-odd : (a : ℤ) → sinePaper (shortSineOf (negℤ a)) .value ≡ negℤ (sinePaper (shortSineOf a) .value)
 short-odd a =
@@ -163,7 +190,7 @@ abbrev shortAt : ℕ → ℤ
 shortAt a = sinePaper (shortSineOf (pos a)) .value
 
 shortAt-is : (a : ℕ) → a ≤ quarter → shortAt a ≡ pos (shortSine a)
-shortAt-is a h = ap (λ (s : SineOut). s .value) (short-is (pos a) (size-latitude (pos a) h))
+shortAt-is a h = ap (λ (s : SineOut). s .value) (short-as-before (pos a) (size-latitude (pos a) h))
 
 cosine-is : (lat : ℤ) → shortAt (quarter - natAbs lat) ≡ pos (shortCosine lat)
 unfolding shortCosine
@@ -190,7 +217,7 @@ cosine-off-poles lat h = rw (cosine-is lat) (A.cosine-test lat h)
 pub cylindrical-place : (lat lon meridian : ℤ) → isLongitude meridian ≡ true → accepted lat lon ≡ true
     → placePaper (cylindricalOf lat lon meridian) ≡ there (offsetOf lon meridian) (sinePaper (longSineOf lat) .value)
 cylindrical-place lat lon meridian m h =
-    rw (place-is cylinder lat lon meridian m h, times-one (offsetOf lon meridian), long-is lat (and-true (isLatitude lat) (isLongitude lon) h .0))
+    rw (place-is cylinder lat lon meridian m h, times-one (offsetOf lon meridian), long-as-before lat (and-true (isLatitude lat) (isLongitude lon) h .0))
 
 -- "x = offset × short cosine, nothing dropped; y = latitude in ticks"; the cosine is "the sine .. of 90 degrees less its size"
 pub sinusoidal-place : (lat lon meridian : ℤ) → isLongitude meridian ≡ true → accepted lat lon ≡ true

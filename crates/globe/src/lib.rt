@@ -73,7 +73,7 @@ pub struct LengthOut {
     pub millimetres: u64,
 }
 
-// 10^13 times the sine of an angle from -90 to 90 degrees.
+// 10^13 times the sine of an angle from -180 to 180 degrees.
 pub fn long_sine(angle: i32) -> Sine
     ensures { λ r. ⌜ r ≡ longSineOf angle ⌝ }
 {
@@ -81,7 +81,7 @@ pub fn long_sine(angle: i32) -> Sine
     lookup::long_sine(&t, angle)
 }
 
-// 10^9 times the sine of an angle from -90 to 90 degrees.
+// 10^9 times the sine of an angle from -180 to 180 degrees.
 pub fn short_sine(angle: i32) -> Sine
     ensures { λ r. ⌜ r ≡ shortSineOf angle ⌝ }
 {

@@ -1,19 +1,20 @@
-// Sines by a lent table of sines: the long and the short sine of a size, of an angle, and the cosine of a latitude.
+// Sines by a lent table of sines: the long and the short sine of a size, of an angle all the way round, and the cosine of a latitude.
 ghost use mathlib.Core.Path.{_≡_};
 ghost use mathlib.Core.Bool.{true};
 ghost use Prim.Native.Nat.{_≤_};
 ghost use Rattle.sines.specs.Table.{sines, entry};
 ghost use Rattle.sines.specs.Rules.{rows};
 ghost use Rattle.sines.specs.Sine.{quarter, longSine, shortSine};
-ghost use Rattle.ticks.specs.Ticks.{isLatitude};
-ghost use Rattle.globe.specs.Angle.{signedLongSine, shortCosine, longSineOf, shortSineOf};
+ghost use Rattle.ticks.specs.Ticks.{isLatitude, isAngle};
+ghost use Rattle.globe.specs.Angle.{signedLongSine, shortCosine, longAround, shortAround, longSineOf, shortSineOf};
 use crate::Sine;
 use refusals::LATITUDE;
 use signed::size32;
 use signed::with_sign_of;
 use sines::Entries;
 use ticks::NORTH;
-use ticks::is_latitude;
+use ticks::fold;
+use ticks::is_angle;
 
 pub(crate) const ROWS: usize = 4_500;
 
@@ -70,24 +71,42 @@ pub(crate) fn short_cosine(t: &Entries, latitude: i32) -> u64
     short_sine_of(t, QUARTER - size32(latitude))
 }
 
-// 10^13 times the sine.
+// 10^13 times the sine of an angle from -180 to 180 degrees.
+pub(crate) fn long_around(t: &Entries, angle: i64) -> i64
+    requires { ⌜ now t ≡ sines ⌝ }
+    requires { ⌜ isAngle angle ≡ true ⌝ }
+    ensures { λ r. ⌜ r ≡ longAround angle ⌝ }
+{
+    signed_long_sine(t, fold(angle) as i32)
+}
+
+// 10^9 times it. Division drops toward zero, so that south mirrors north.
+pub(crate) fn short_around(t: &Entries, angle: i64) -> i64
+    requires { ⌜ now t ≡ sines ⌝ }
+    requires { ⌜ isAngle angle ≡ true ⌝ }
+    ensures { λ r. ⌜ r ≡ shortAround angle ⌝ }
+{
+    long_around(t, angle) / (SHORTENING as i64)
+}
+
 pub(crate) fn long_sine(t: &Entries, angle: i32) -> Sine
     requires { ⌜ now t ≡ sines ⌝ }
     ensures { λ r. ⌜ r ≡ longSineOf angle ⌝ }
 {
-    if !is_latitude(angle as i64) {
+    let a = angle as i64;
+    if !is_angle(a) {
         return Sine::Refused(LATITUDE);
     }
-    Sine::Value(signed_long_sine(t, angle))
+    Sine::Value(long_around(t, a))
 }
 
-// 10^9 times the sine. Division drops toward zero, so that south mirrors north.
 pub(crate) fn short_sine(t: &Entries, angle: i32) -> Sine
     requires { ⌜ now t ≡ sines ⌝ }
     ensures { λ r. ⌜ r ≡ shortSineOf angle ⌝ }
 {
-    if !is_latitude(angle as i64) {
+    let a = angle as i64;
+    if !is_angle(a) {
         return Sine::Refused(LATITUDE);
     }
-    Sine::Value(signed_long_sine(t, angle) / (SHORTENING as i64))
+    Sine::Value(short_around(t, a))
 }

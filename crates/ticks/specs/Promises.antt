@@ -1,8 +1,9 @@
--- What is promised of the ranges, of the offset and of the refusals of a point, in the document's own numbers.
+-- What is promised of the ranges, of the offset, of the fold and of the refusals of a point, in the document's own numbers.
 -- Assumes nothing.
 use mathlib.Core.Path.{_≡_, refl, sym, ap, subst, _∙_}
 use mathlib.Core.Logic.{_↔_, _⊎_, inl, inr}
-use mathlib.Core.Bool.{Bool, true, false}
+use mathlib.Core.Bool.{Bool, true, false, _&&_}
+use Prim.Native.Nat.{ℕ}
 use native.Mathlib.Omega.{arith}
 use lib.Dec.{T}
 use lib.IntN.{ℤ, pos, negℤ, _+ℤ_, _-ℤ_}
@@ -10,8 +11,8 @@ use lib.Signed.{ltZ, leZ, _≤ℤ_, _<ℤ_}
 use Rattle.refusals.specs.Tests.{by-test, and-true, true-and}
 use Rattle.refusals.specs.Choice.{if_then_else_}
 use Rattle.signed.specs.Sides.{above, below, same, add-sides, sub-sides}
-use Rattle.ticks.specs.Ticks.{half, fullTurn, isLatitude, isLongitude, accepted, turned, offsetOf, pointRefusal, sheetRefusal}
-use Rattle.ticks.specs.TickLaws.{longitude, is-longitude, Turned, turned-how, offset-longitude, no-offset}
+use Rattle.ticks.specs.Ticks.{half, fullTurn, isLatitude, isLongitude, isAngle, folded, accepted, turned, offsetOf, pointRefusal, sheetRefusal}
+use Rattle.ticks.specs.TickLaws.{longitude, is-longitude, Turned, turned-how, offset-longitude, no-offset, folded-latitude, folded-self, folded-mirror}
 
 -- ---- the ranges
 
@@ -21,14 +22,22 @@ holds e = subst T (sym e) tt
 is-true : (t : Bool) → T t → t ≡ true
 is-true t h = by-test t (λ e. e) (λ e. absurd (subst T e h))
 
+-- from -n to n, both allowed
+both-allowed : (n : ℕ) (z : ℤ) → (leZ (negℤ (pos n)) z && leZ z (pos n) ≡ true) ↔ ((negℤ (pos n) ≤ℤ z) × (z ≤ℤ pos n))
+both-allowed n z = (there, λ h. true-and (is-true (leZ (negℤ (pos n)) z) (h .0 .le)) (is-true (leZ z (pos n)) (h .1 .le)))
+  where
+    there : leZ (negℤ (pos n)) z && leZ z (pos n) ≡ true → (negℤ (pos n) ≤ℤ z) × (z ≤ℤ pos n)
+    there e =
+        let p = and-true (leZ (negℤ (pos n)) z) (leZ z (pos n)) e in
+        (record { le = holds (p .0) }, record { le = holds (p .1) })
+
 -- "Latitude runs from -900,000,000 to 900,000,000, both allowed."
 pub latitude-range : (z : ℤ) → (isLatitude z ≡ true) ↔ ((negℤ (pos 900_000_000) ≤ℤ z) × (z ≤ℤ pos 900_000_000))
-latitude-range z = (there, λ h. true-and (is-true (leZ (negℤ (pos 900_000_000)) z) (h .0 .le)) (is-true (leZ z (pos 900_000_000)) (h .1 .le)))
-  where
-    there : isLatitude z ≡ true → (negℤ (pos 900_000_000) ≤ℤ z) × (z ≤ℤ pos 900_000_000)
-    there e =
-        let p = and-true (leZ (negℤ (pos 900_000_000)) z) (leZ z (pos 900_000_000)) e in
-        (record { le = holds (p .0) }, record { le = holds (p .1) })
+latitude-range z = both-allowed 900_000_000 z
+
+-- "-180 to 180 degrees, both allowed"
+pub angle-range : (z : ℤ) → (isAngle z ≡ true) ↔ ((negℤ (pos 1_800_000_000) ≤ℤ z) × (z ≤ℤ pos 1_800_000_000))
+angle-range z = both-allowed 1_800_000_000 z
 
 -- "Longitude and central meridian run from -1,800,000,000, allowed, up to but not including 1,800,000,000"
 pub longitude-range : (z : ℤ) → (isLongitude z ≡ true) ↔ ((negℤ (pos 1_800_000_000) ≤ℤ z) × (z <ℤ pos 1_800_000_000))
@@ -83,6 +92,19 @@ module _ (lon meridian : ℤ) (p : isLongitude lon ≡ true) (q : isLongitude me
       let t = turned-how (lon -ℤ meridian) in
       (λ e. same lon meridian (omega (arith, sub-sides lon meridian, t .apart, t .few, ap above e, ap below e)), λ e. ap (λ (x : ℤ). offsetOf x meridian) e ∙ no-offset meridian q)
 
+-- ---- the fold
+
+-- "beyond 90, the sine of 180 less the angle; odd as before": whose sine is taken for an angle's
+pub record Folds (a : ℤ) : Type 0 where
+  pub inside : isLatitude (folded a) ≡ true
+  pub self : isLatitude a ≡ true → folded a ≡ a
+  pub beyond : pos 900_000_000 <ℤ a → folded a ≡ pos 1_800_000_000 -ℤ a
+  pub odd : folded (negℤ a) ≡ negℤ (folded a)
+
+pub folds : (a : ℤ) → isAngle a ≡ true → Folds a
+unfolding folded
+folds a h = record { inside = folded-latitude a h; self = folded-self a; beyond = λ l. rw (is-true (ltZ (pos 900_000_000) a) (l .lt)); odd = folded-mirror a h }
+
 -- ---- refusals
 
 -- "A point is accepted exactly when its latitude and longitude lie in these ranges."; 6 comes before 7
@@ -94,6 +116,11 @@ pub record PointJudged (lat lon : ℤ) : Type 0 where
 pub point-judged : (lat lon : ℤ) → PointJudged lat lon
 unfolding pointRefusal
 point-judged lat lon = record { six = λ e. rw e; seven = λ e f. rw (e, f); none = λ e. let h = and-true (isLatitude lat) (isLongitude lon) e in rw (h .0, h .1) }
+
+-- an angle that has a sine is no latitude for that: 90 degrees and a tick
+pub past-the-pole : (isAngle (pos 900_000_001) ≡ true) × (pointRefusal (pos 900_000_001) (pos 0) ≡ 6) × (pointRefusal (negℤ (pos 900_000_001)) (pos 0) ≡ 6)
+unfolding pointRefusal
+past-the-pole = (refl, refl, refl)
 
 -- "Sheets: 14, 6, 7."
 pub record SheetJudged (lat lon meridian : ℤ) : Type 0 where

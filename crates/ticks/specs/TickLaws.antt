@@ -1,8 +1,8 @@
--- What the ranges, the turn and the refusals of a point say, as facts that `omega` reads.
+-- What the ranges, the turn, the fold and the refusals of a point say, as facts that `omega` reads.
 -- Assumes nothing.
-use mathlib.Core.Path.{_≡_, refl}
-use mathlib.Core.Bool.{Bool, true, false}
-use Prim.Native.Nat.{ℕ, _+_, _*_, _≤_, _<_}
+use mathlib.Core.Path.{_≡_, refl, sym, _∙_}
+use mathlib.Core.Bool.{Bool, true, false, _&&_}
+use Prim.Native.Nat.{ℕ, _+_, _-_, _*_, _≤_, _<_, min}
 use native.Mathlib.Nat.{mul-le-mul}
 use native.Mathlib.Omega.{arith}
 use lib.IntN.{ℤ, pos, negℤ, natAbs, _+ℤ_, _-ℤ_, _*ℤ_}
@@ -13,13 +13,43 @@ use Rattle.refusals.specs.Refusal.{LATITUDE, LONGITUDE, MERIDIAN}
 use Rattle.refusals.specs.Choice.{if_then_else_}
 use Rattle.refusals.specs.Tests.{and-true, true-and, unless-none}
 use Rattle.sines.specs.Sine.{quarter, shortUnit}
-use Rattle.signed.specs.Sides.{above, below, one-side, same, add-sides, sub-sides, mul-above, mul-below, size-sides}
+use Rattle.signed.specs.Sides.{above, below, one-side, same, add-sides, sub-sides, neg-above, neg-below, mul-above, mul-below, size-sides}
 use Rattle.signed.specs.Tests.{ltZ-true, ltZ-false, leZ-true, leZ-false, lt-ltZ, le-leZ}
 use Rattle.signed.specs.Machine.{fits-of}
-use Rattle.ticks.specs.Ticks.{half, fullTurn, isLatitude, isLongitude, turned, offsetOf, pointRefusal, sheetRefusal}
+use Rattle.ticks.specs.Ticks.{half, fullTurn, isLatitude, isLongitude, isAngle, folded, turned, offsetOf, pointRefusal, sheetRefusal}
 
 -- ---- the ranges
 
+-- from -n to n, both allowed, by the size
+within-size : (n : ℕ) (z : ℤ) → leZ (negℤ (pos n)) z && leZ z (pos n) ≡ true → natAbs z ≤ n
+within-size n z e =
+    let p = and-true (leZ (negℤ (pos n)) z) (leZ z (pos n)) e in
+    let a = leZ-true (negℤ (pos n)) z (p .0) in
+    let b = leZ-true z (pos n) (p .1) in
+    omega (arith, neg-above (pos n), neg-below (pos n), one-side z, size-sides z)
+
+size-within : (n : ℕ) (z : ℤ) → natAbs z ≤ n → leZ (negℤ (pos n)) z && leZ z (pos n) ≡ true
+size-within n z h =
+    let s = size-sides z in
+    true-and (le-leZ (negℤ (pos n)) z (omega (arith, neg-above (pos n), neg-below (pos n)))) (le-leZ z (pos n) (omega arith))
+
+pub latitude-size : (z : ℤ) → isLatitude z ≡ true → natAbs z ≤ quarter
+latitude-size z e = within-size quarter z e
+
+pub size-latitude : (z : ℤ) → natAbs z ≤ quarter → isLatitude z ≡ true
+size-latitude z h = size-within quarter z h
+
+pub angle-size : (z : ℤ) → isAngle z ≡ true → natAbs z ≤ half
+angle-size z e = within-size half z e
+
+pub size-angle : (z : ℤ) → natAbs z ≤ half → isAngle z ≡ true
+size-angle z h = size-within half z h
+
+-- every latitude has a sine
+pub latitude-angle : (z : ℤ) → isLatitude z ≡ true → isAngle z ≡ true
+latitude-angle z e = size-angle z (omega (arith, latitude-size z e))
+
+-- by its sides
 pub record Latitude (z : ℤ) : Type 0 where
   pub north : above z ≤ quarter
   pub south : below z ≤ quarter
@@ -29,15 +59,7 @@ pub record Longitude (z : ℤ) : Type 0 where
   pub west : below z ≤ half
 
 pub latitude : (z : ℤ) → isLatitude z ≡ true → Latitude z
-latitude z e =
-    let p = and-true (leZ (negℤ (pos quarter)) z) (leZ z (pos quarter)) e in
-    let a = leZ-true (negℤ (pos quarter)) z (p .0) in
-    let b = leZ-true z (pos quarter) (p .1) in
-    let o = one-side z in
-    omega arith
-
-pub is-latitude : (z : ℤ) → Latitude z → isLatitude z ≡ true
-is-latitude z h = true-and (le-leZ (negℤ (pos quarter)) z (omega arith)) (le-leZ z (pos quarter) (omega arith))
+latitude z e = omega (arith, latitude-size z e, size-sides z)
 
 pub longitude : (z : ℤ) → isLongitude z ≡ true → Longitude z
 longitude z e =
@@ -51,13 +73,6 @@ pub is-longitude : (z : ℤ) → Longitude z → isLongitude z ≡ true
 is-longitude z h =
     let o = one-side z in
     true-and (le-leZ (negℤ (pos half)) z (omega arith)) (lt-ltZ z (pos half) (omega arith))
-
--- by its size
-pub latitude-size : (z : ℤ) → isLatitude z ≡ true → natAbs z ≤ quarter
-latitude-size z e = omega (arith, latitude z e, size-sides z, one-side z)
-
-pub size-latitude : (z : ℤ) → natAbs z ≤ quarter → isLatitude z ≡ true
-size-latitude z h = let s = size-sides z in is-latitude z (omega arith)
 
 pub latitude-fits : {z : ℤ} → isLatitude z ≡ true → SFits w32 z
 latitude-fits {z} e = let h = latitude z e in fits-of w32 z (omega arith) (omega arith)
@@ -151,6 +166,42 @@ pub product-fits : (d : ℤ) (w : ℕ) → Longitude d → w ≤ shortUnit → S
 product-fits d w h k =
     let e : above d ≤ half = omega arith in
     fits-of w64 (d *ℤ pos w) (omega (arith, mul-above d w, mul-le-mul e k)) (omega (arith, mul-below d w, mul-le-mul (h .west) k))
+
+-- ---- the fold
+
+-- each side of an angle is folded by itself
+folded-sides : (a : ℤ) → isAngle a ≡ true → (above (folded a) ≡ min (above a) (half - above a)) × (below (folded a) ≡ min (below a) (half - below a))
+unfolding folded
+folded-sides a h = go (ltZ (pos quarter) a) (ltZ a (negℤ (pos quarter))) refl refl (omega (arith, angle-size a h, size-sides a))
+  where
+    go : (s t : Bool) → ltZ (pos quarter) a ≡ s → ltZ a (negℤ (pos quarter)) ≡ t → above a + below a ≤ half
+        → let r = if s then pos half -ℤ a else (if t then negℤ (pos half) -ℤ a else a) in
+        (above r ≡ min (above a) (half - above a)) × (below r ≡ min (below a) (half - below a))
+    go true t e f l = omega (arith, ltZ-true (pos quarter) a e, one-side a, sub-sides (pos half) a, one-side (pos half -ℤ a))
+    go false true e f l = omega (arith, ltZ-true a (negℤ (pos quarter)) f, one-side a, sub-sides (negℤ (pos half)) a, one-side (negℤ (pos half) -ℤ a))
+    go false false e f l = omega (arith, ltZ-false (pos quarter) a e, ltZ-false a (negℤ (pos quarter)) f, one-side a)
+
+pub folded-latitude : (a : ℤ) → isAngle a ≡ true → isLatitude (folded a) ≡ true
+folded-latitude a h = size-latitude (folded a) (omega (arith, folded-sides a h, one-side (folded a), size-sides (folded a)))
+
+pub folded-self : (a : ℤ) → isLatitude a ≡ true → folded a ≡ a
+folded-self a h = same (folded a) a (omega (arith, latitude a h, folded-sides a (latitude-angle a h)))
+
+pub folded-supplement : (a : ℕ) → a ≤ half → folded (pos (half - a)) ≡ folded (pos a)
+folded-supplement a h =
+    same (folded (pos (half - a))) (folded (pos a))
+    (omega (arith, folded-sides (pos a) (size-angle (pos a) h), folded-sides (pos (half - a)) (size-angle (pos (half - a)) (omega arith))))
+
+pub angle-mirror : (a : ℤ) → isAngle a ≡ true → isAngle (negℤ a) ≡ true
+angle-mirror a h = size-angle (negℤ a) (omega (arith, angle-size a h, size-sides a, size-sides (negℤ a), neg-above a, neg-below a))
+
+pub folded-mirror : (a : ℤ) → isAngle a ≡ true → folded (negℤ a) ≡ negℤ (folded a)
+folded-mirror a h =
+    let s = folded-sides a h in
+    let m = folded-sides (negℤ a) (angle-mirror a h) in
+    let u = rw (neg-above a) at (m .0) ∙ sym (s .1) in
+    let d = rw (neg-below a) at (m .1) ∙ sym (s .0) in
+    same (folded (negℤ a)) (negℤ (folded a)) (omega (arith, u, d, neg-above (folded a), neg-below (folded a)))
 
 -- ---- what nothing refuses
 

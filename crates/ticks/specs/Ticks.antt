@@ -1,4 +1,5 @@
--- "An angle is a whole number of ticks; a tick is one ten-millionth of a degree." Ranges, the offset, and what refuses a point.
+-- "An angle is a whole number of ticks; a tick is one ten-millionth of a degree." Ranges, the offset, the angle that has another's sine, and what
+-- refuses a point.
 -- Assumes nothing.
 use Prim.Native.Nat.{ℕ}
 use mathlib.Core.Bool.{Bool, _&&_}
@@ -23,6 +24,10 @@ isLatitude z = leZ (negℤ (pos quarter)) z && leZ z (pos quarter)
 abbrev pub isLongitude : ℤ → Bool
 isLongitude z = leZ (negℤ (pos half)) z && ltZ z (pos half)
 
+-- an angle that has a sine: "Long and short sine now accept -180 to 180 degrees, both allowed"
+abbrev pub isAngle : ℤ → Bool
+isAngle z = leZ (negℤ (pos half)) z && leZ z (pos half)
+
 -- "A point is accepted exactly when its latitude and longitude lie in these ranges."
 abbrev pub accepted : ℤ → ℤ → Bool
 accepted lat lon = isLatitude lat && isLongitude lon
@@ -34,6 +39,10 @@ turned d = if ltZ d (negℤ (pos half)) then d +ℤ pos fullTurn else (if leZ (p
 -- "longitude minus central meridian"
 unfoldable pub offsetOf : ℤ → ℤ → ℤ
 offsetOf lon meridian = turned (lon -ℤ meridian)
+
+-- "beyond 90, the sine of 180 less the angle; odd as before": the angle from -90 to 90 degrees whose sine is taken
+unfoldable pub folded : ℤ → ℤ
+folded a = if ltZ (pos quarter) a then pos half -ℤ a else (if ltZ a (negℤ (pos quarter)) then negℤ (pos half) -ℤ a else a)
 
 -- a point's refusal: 6, then 7
 unfoldable pub pointRefusal : ℤ → ℤ → ℕ

@@ -1,6 +1,6 @@
-// Angles in ticks: their ranges, the turn that brings a longitude into its own, and what refuses a point.
+// Angles in ticks: their ranges, the turn that brings a longitude into its own, the angle that has another's sine, and what refuses a point.
 ghost use mathlib.Core.Path.{_≡_};
-ghost use Rattle.ticks.specs.Ticks.{isLatitude, isLongitude, turned, offsetOf, pointRefusal, sheetRefusal};
+ghost use Rattle.ticks.specs.Ticks.{isLatitude, isLongitude, isAngle, turned, offsetOf, folded, pointRefusal, sheetRefusal};
 use refusals::LATITUDE;
 use refusals::LONGITUDE;
 use refusals::MERIDIAN;
@@ -28,6 +28,13 @@ pub fn is_longitude(z: i64) -> bool
     (WEST <= z) & (z < EAST)
 }
 
+// Whether an angle has a sine.
+pub fn is_angle(z: i64) -> bool
+    ensures { λ r. ⌜ r ≡ isAngle z ⌝ }
+{
+    (WEST <= z) & (z <= EAST)
+}
+
 pub fn into_turn(d: i64) -> i64
     ensures { λ r. ⌜ r ≡ turned d ⌝ }
 {
@@ -45,6 +52,19 @@ pub fn offset(longitude: i32, meridian: i32) -> i64
     ensures { λ r. ⌜ r ≡ offsetOf longitude meridian ⌝ }
 {
     into_turn((longitude as i64) - (meridian as i64))
+}
+
+// The angle from -90 to 90 degrees that has the sine of an angle from -180 to 180: beyond 90, 180 less the angle.
+pub fn fold(angle: i64) -> i64
+    ensures { λ r. ⌜ r ≡ folded angle ⌝ }
+{
+    if NORTH < angle {
+        EAST - angle
+    } else if angle < SOUTH {
+        WEST - angle
+    } else {
+        angle
+    }
 }
 
 // 0 where the point is accepted.
