@@ -1,8 +1,8 @@
 #!/usr/bin/env python3
-"""How far the document's length of a leg lies from the true great circle on its sphere, over random legs of several lengths: prints the
-table of docs/ACCURACY.md.
+"""How far the document's length of a leg and the course at which it starts lie from those of the true great circle on its sphere, over random legs
+of several lengths: prints the two tables of docs/ACCURACY.md.
 
-The rule is the model's of tests/, to which the tests hold the compiled code. The truth is that of the same points, in whole ticks, worked
+The rules are the model's of tests/, to which the tests hold the compiled code. The truth is that of the same points, in whole ticks, worked
 out to more than 50 digits by the form with the arc tangent of two arguments, which loses nothing at any length.
 """
 import math
@@ -37,18 +37,22 @@ def sine_and_cosine(x):
     return sums
 
 
-def true_length(latitude, longitude, latitude2, longitude2):
-    """The millimetres of the great circle between two points in ticks."""
+def angle(sine, cosine):
+    """In radians, from its sine and cosine. The float's answer is off by an angle whose sine they give, so small that two terms are enough."""
+    near = Decimal(math.atan2(sine, cosine))
+    s, c = sine_and_cosine(near)
+    off = sine * c - cosine * s
+    return near + off + off**3 / 6
+
+
+def true_leg(latitude, longitude, latitude2, longitude2):
+    """The millimetres of the great circle between two points in ticks, and the ticks of its course at the first, from -180 to 180 degrees."""
     s1, c1 = sine_and_cosine(latitude * TICK)
     s2, c2 = sine_and_cosine(latitude2 * TICK)
     s, c = sine_and_cosine((longitude2 - longitude + model.HALF_TURN) % model.TURN * TICK - model.HALF_TURN * TICK)
-    y = ((c2 * s)**2 + (c1 * s2 - s1 * c2 * c)**2).sqrt()
-    x = s1 * s2 + c1 * c2 * c
-    # y and x are the arc's sine and cosine: the float's answer is off by an angle whose sine they give, so small that two terms are enough
-    near = Decimal(math.atan2(y, x))
-    s, c = sine_and_cosine(near)
-    off = y * c - x * s
-    return (near + off + off**3 / 6) * RADIUS * 1000
+    east, north, onward = c2 * s, c1 * s2 - s1 * c2 * c, s1 * s2 + c1 * c2 * c
+    across = (east**2 + north**2).sqrt()
+    return angle(across, onward) * RADIUS * 1000, angle(east / across, north / across) / TICK
 
 
 def some_latitude():
@@ -69,6 +73,12 @@ def some_leg(latitude, metres):
     return ticks(latitude), longitude_ticks(longitude), ticks(latitude2), longitude_ticks(longitude2)
 
 
+def tick_leg(latitude):
+    """A leg to the next tick north, east, south or west."""
+    (north, east), longitude = random.choice([(1, 0), (0, 1), (-1, 0), (0, -1)]), longitude_ticks(random.uniform(-math.pi, math.pi))
+    return ticks(latitude), longitude, ticks(latitude) + north, model.turned(longitude + east)
+
+
 def ticks(radians):
     return round(math.degrees(radians) * model.DEGREE)
 
@@ -77,24 +87,44 @@ def longitude_ticks(radians):
     return (ticks(radians) + model.HALF_TURN) % model.TURN - model.HALF_TURN
 
 
-def print_row(name, legs):
+def length_row(legs, truths):
     """The largest and the mean size of the difference, and the largest beside the leg's own length."""
-    truths = [true_length(*leg) for leg in legs]
-    sizes = [abs(model.leg(*leg) - truth) for leg, truth in zip(legs, truths)]
-    relative = max(size / truth for size, truth in zip(sizes, truths))
-    print(f'| {name} | {max(sizes):,.1f} | {sum(sizes) / len(sizes):,.1f} | {relative:.1e} |')
+    sizes = [abs(model.leg(*leg) - length) for leg, (length, _) in zip(legs, truths)]
+    relative = max(size / length for size, (length, _) in zip(sizes, truths))
+    return f'{max(sizes):,.1f} | {sum(sizes) / len(sizes):,.1f} | {relative:.1e}'
+
+
+def course_row(legs, truths):
+    """The largest and the mean size of the difference, the shorter way round, and how many have no course."""
+    courses = [model.course(*leg) for leg in legs]
+    sizes = [abs((course - true + model.HALF_TURN) % model.TURN - model.HALF_TURN) / model.DEGREE
+             for course, (_, true) in zip(courses, truths) if course is not None]
+    return f'{max(sizes):.7f} | {sum(sizes) / len(sizes):.7f} | {courses.count(None)}'
 
 
 def about(metres):
     return metres * random.uniform(0.9, 1.1)
 
 
+def some_legs():
+    """Of each length, with its name."""
+    for metres in METRES:
+        name = f'{metres} m' if metres < 1000 else f'{metres // 1000:,} km'
+        yield name, [some_leg(some_latitude(), about(metres)) for _ in range(LEGS)]
+    yield '1 km, near a pole', [some_leg(polar_latitude(), about(1000)) for _ in range(LEGS)]
+    yield 'nearly to the antipode', [some_leg(some_latitude(), math.pi * RADIUS - random.uniform(0, NEAR)) for _ in range(LEGS)]
+    yield '1 tick', [tick_leg(some_latitude()) for _ in range(LEGS)]
+
+
+def print_table(head, row):
+    print(f'\n| a leg of about | {head} |')
+    print('|---|---|---|---|')
+    for name, legs, truths in rows:
+        print(f'| {name} | {row(legs, truths)} |')
+
+
 random.seed(SEED)
-print(f'Seed {SEED}, {LEGS:,} legs a line:\n')
-print('| a leg of about | largest difference, mm | mean, mm | largest, relative |')
-print('|---|---|---|---|')
-for metres in METRES:
-    name = f'{metres} m' if metres < 1000 else f'{metres // 1000:,} km'
-    print_row(name, [some_leg(some_latitude(), about(metres)) for _ in range(LEGS)])
-print_row('1 km, near a pole', [some_leg(polar_latitude(), about(1000)) for _ in range(LEGS)])
-print_row('nearly to the antipode', [some_leg(some_latitude(), math.pi * RADIUS - random.uniform(0, NEAR)) for _ in range(LEGS)])
+print(f'Seed {SEED}, {LEGS:,} legs a line:')
+rows = [(name, legs, [true_leg(*leg) for leg in legs]) for name, legs in some_legs()]
+print_table('largest difference, mm | mean, mm | largest, relative', length_row)
+print_table('largest difference, degrees | mean, degrees | without a course', course_row)

@@ -191,6 +191,7 @@ EXACT(sinusoidal, senruhobi_place, sinusoidal(in->latitude, in->longitude, in->m
 EXACT(cylindrical_back, senruhobi_point, cylindrical_back(in->cylindrical.x, in->cylindrical.y, in->meridian), POINT)
 EXACT(sinusoidal_back, senruhobi_point, sinusoidal_back(in->sinusoidal.x, in->sinusoidal.y, in->meridian), POINT)
 EXACT(leg, senruhobi_length, leg(in->latitude, in->longitude, in->latitude2, in->longitude2), a.refusal + a.millimetres)
+EXACT(course, senruhobi_direction, course(in->latitude, in->longitude, in->latitude2, in->longitude2), a.refusal + (uint64_t)a.ticks)
 EXACT(pen_step, senruhobi_step, STEP, a.refusal + a.stroke + a.pen + bits(a.x) + 3 * bits(a.y))
 
 USUAL(long_sine, usual_number, sine(in->longitude), a.refused + a.value)
@@ -202,6 +203,7 @@ USUAL(cylindrical_back, usual_point, cylindrical_back(in->cylindrical.x, in->cyl
 USUAL(sinusoidal_back, usual_point, sinusoidal_back(in->sinusoidal.x, in->sinusoidal.y, in->meridian),
       a.refused + a.latitude + a.longitude)
 USUAL(leg, usual_number, leg(in->latitude, in->longitude, in->latitude2, in->longitude2), a.refused + a.value)
+USUAL(course, usual_number, course(in->latitude, in->longitude, in->latitude2, in->longitude2), a.refused + a.value)
 USUAL(pen_step, usual_step, STEP, a.refused + a.stroke + a.pen + a.x + a.y)
 
 #define READ_EXACT(way, route, kind, numbers)                                                                     \
@@ -325,7 +327,7 @@ typedef struct {
     }
 
 enum {
-    LONG_SINE, SHORT_SINE, CYLINDRICAL, SINUSOIDAL, CYLINDRICAL_BACK, SINUSOIDAL_BACK, LEG, PEN_STEP,
+    LONG_SINE, SHORT_SINE, CYLINDRICAL, SINUSOIDAL, CYLINDRICAL_BACK, SINUSOIDAL_BACK, LEG, COURSE, PEN_STEP,
     MEASURE_NEAR, MEASURE_FAR, READ_FEW, NEAR_JOINED, NEAR_PARTED, FAR_JOINED, FAR_PARTED, WRITE_FEW, WRITE_NEAR, WRITE_FAR, JOBS
 };
 
@@ -337,6 +339,7 @@ static job jobs[JOBS] = {
     [CYLINDRICAL_BACK] = EACH(cylindrical_back),
     [SINUSOIDAL_BACK] = EACH(sinusoidal_back),
     [LEG] = EACH(leg),
+    [COURSE] = EACH(course),
     [PEN_STEP] = EACH(pen_step),
     [MEASURE_NEAR] = MEASURING(near),
     [MEASURE_FAR] = MEASURING(far),
@@ -445,7 +448,7 @@ static void print_rows(void)
     print_point("a point inside it, near", &jobs[WRITE_NEAR]);
     print_point("a point inside it, far", &jobs[WRITE_FAR]);
     printf("\n"
-           "door    the library's own function; twin: the same rules in plain C; usual: sin, asin, strtod, snprintf, doubles\n"
+           "door    the library's own function; twin: the same rules in plain C; usual: sin, asin, atan2, strtod, snprintf, doubles\n"
            "table   what a call pays to make the table of sines, if it makes one: an idle call (refused, or without points) less the twin's\n"
            "rest    door less table; no ratio below a twentieth of the table, where it is mostly noise\n"
            "few     %d points of a walk; near: %d of them; far: %d points from all round the globe\n"

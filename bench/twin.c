@@ -9,7 +9,7 @@ void *memcpy(void *restrict, const void *restrict, size_t);
 
 enum {
     TEXT = 1, HEADER, LINE, NUMBER, MARK, LATITUDE, LONGITUDE, ORDER, POINTS, ROOM, PLACE, WINDOW, DIVISOR, MERIDIAN,
-    OUTPUT, TARGET, BUFFER
+    OUTPUT, TARGET, BUFFER, COURSE
 };
 
 enum { ROWS = 4500, STEP = 200000, QUARTER = 900000000, HALF_TURN = 1800000000, SHORTENING = 10000, SHORT_UNIT = 1000000000 };
@@ -41,6 +41,12 @@ static int is_angle(int64_t z)
 static uint32_t point_refusal(int32_t latitude, int32_t longitude)
 {
     return !is_latitude(latitude) ? LATITUDE : !is_longitude(longitude) ? LONGITUDE : 0;
+}
+
+static uint32_t leg_refusal(int32_t latitude1, int32_t longitude1, int32_t latitude2, int32_t longitude2)
+{
+    uint32_t refusal = point_refusal(latitude1, longitude1);
+    return refusal ? refusal : point_refusal(latitude2, longitude2);
 }
 
 static uint32_t sheet_refusal(int32_t latitude, int32_t longitude, int32_t meridian)
@@ -84,6 +90,11 @@ static int64_t long_around(int32_t a)
     return signed_long_sine(a > QUARTER ? HALF_TURN - a : a < -QUARTER ? -HALF_TURN - a : a);
 }
 
+static int64_t short_around(int32_t a)
+{
+    return long_around(a) / SHORTENING;
+}
+
 senruhobi_sine twin_long_sine(int32_t angle)
 {
     if (!is_angle(angle))
@@ -95,7 +106,7 @@ senruhobi_sine twin_short_sine(int32_t angle)
 {
     if (!is_angle(angle))
         return (senruhobi_sine){.refusal = LATITUDE};
-    return (senruhobi_sine){.value = long_around(angle) / SHORTENING};
+    return (senruhobi_sine){.value = short_around(angle)};
 }
 
 /* Two sheets */
@@ -226,12 +237,61 @@ static uint64_t leg_length(int32_t latitude1, int32_t longitude1, int32_t latitu
 
 senruhobi_length twin_leg(int32_t latitude1, int32_t longitude1, int32_t latitude2, int32_t longitude2)
 {
-    uint32_t refusal = point_refusal(latitude1, longitude1);
-    if (!refusal)
-        refusal = point_refusal(latitude2, longitude2);
+    uint32_t refusal = leg_refusal(latitude1, longitude1, latitude2, longitude2);
     if (refusal)
         return (senruhobi_length){.refusal = refusal};
     return (senruhobi_length){.millimetres = leg_length(latitude1, longitude1, latitude2, longitude2)};
+}
+
+/* Course of a leg */
+
+/* Of two signed short sines. The product is at most 10^18 in size, and C's division drops toward zero. */
+static int64_t short_product(int64_t a, int64_t b)
+{
+    return a * b / SHORT_UNIT;
+}
+
+/* N and D, at most 10^9 and 2 × 10^9 in size: how far east and how far north a leg starts. */
+typedef struct { int32_t n, d; } heading;
+
+static heading leg_heading(int32_t latitude1, int32_t longitude1, int32_t latitude2, int32_t longitude2)
+{
+    int32_t east = (int32_t)offset(longitude2, longitude1);
+    int64_t cosine1 = (int64_t)short_cosine(latitude1), cosine2 = (int64_t)short_cosine(latitude2);
+    int64_t there = short_product(cosine1, short_around(latitude2)), here = short_product(short_around(latitude1), cosine2);
+    /* beyond 90 degrees the offset's cosine is negative */
+    int64_t cosine = short_around(QUARTER - (int32_t)size(east));
+    return (heading){.n = (int32_t)short_product(cosine2, short_around(east)), .d = (int32_t)(there - short_product(here, cosine))};
+}
+
+/* The greatest angle up to 90 degrees whose short sine times d is at most its short cosine times n. The one never falls and the other never
+   rises, so the angles are halved. */
+static uint32_t angle_of_ratio(uint64_t n, uint64_t d)
+{
+    uint32_t a = 0;
+    for (uint32_t angles = QUARTER + 1; angles > 1;) {
+        uint32_t half = angles / 2, middle = a + half;
+        a = short_sine(middle) * d <= short_sine(QUARTER - middle) * n ? middle : a;
+        angles -= half;
+    }
+    return a;
+}
+
+static uint32_t course_of(heading h)
+{
+    uint32_t a = angle_of_ratio(size(h.n), size(h.d));
+    if (h.n >= 0)
+        return h.d >= 0 ? a : HALF_TURN - a;
+    return h.d < 0 ? HALF_TURN + a : a ? (uint32_t)(TURN - a) : 0;
+}
+
+senruhobi_direction twin_course(int32_t latitude1, int32_t longitude1, int32_t latitude2, int32_t longitude2)
+{
+    uint32_t refusal = leg_refusal(latitude1, longitude1, latitude2, longitude2);
+    if (refusal)
+        return (senruhobi_direction){.refusal = refusal};
+    heading h = leg_heading(latitude1, longitude1, latitude2, longitude2);
+    return h.n || h.d ? (senruhobi_direction){.ticks = course_of(h)} : (senruhobi_direction){.refusal = COURSE};
 }
 
 /* Point buffer */

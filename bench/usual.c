@@ -1,9 +1,10 @@
-/* The usual floating-point way: sin, cos, asin and sqrt of the C library, the haversine, numbers read by strtod and written by snprintf.
+/* The usual floating-point way: sin, cos, asin, atan2 and sqrt of the C library, the haversine, numbers read by strtod and written by snprintf.
    Ranges are checked, and nothing else that the document asks: answers are near, not exact, a text may be read that should be refused, and
    an output may be half written when its room ends. */
 #include "usual.h"
 
 double asin(double);
+double atan2(double, double);
 double cos(double);
 double sin(double);
 double sqrt(double);
@@ -96,6 +97,17 @@ usual_number usual_leg(double latitude1, double longitude1, double latitude2, do
     if (!is_point(latitude1, longitude1) || !is_point(latitude2, longitude2))
         return (usual_number){.refused = 1};
     return (usual_number){.value = leg_length(latitude1, longitude1, latitude2, longitude2)};
+}
+
+usual_number usual_course(double latitude1, double longitude1, double latitude2, double longitude2)
+{
+    if (!is_point(latitude1, longitude1) || !is_point(latitude2, longitude2))
+        return (usual_number){.refused = 1};
+    double east = (longitude2 - longitude1) * RADIAN, cosine2 = cos(latitude2 * RADIAN);
+    double n = cosine2 * sin(east);
+    double d = cos(latitude1 * RADIAN) * sin(latitude2 * RADIAN) - sin(latitude1 * RADIAN) * cosine2 * cos(east);
+    double course = atan2(n, d) / RADIAN;
+    return n == 0 && d == 0 ? (usual_number){.refused = 1} : (usual_number){.value = course < 0 ? course + 360 : course};
 }
 
 usual_number usual_measure(const double *points, size_t numbers)

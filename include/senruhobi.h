@@ -1,4 +1,4 @@
-/* Senruhobi's doors for C: sines, map sheets, lengths, route texts and the pen of the route desk. The library is for x86-64 Linux.
+/* Senruhobi's doors for C: sines, map sheets, lengths, courses, route texts and the pen of the route desk. The library is for x86-64 Linux.
  *
  * Each door answers for all arguments; nobody has to check first. In `refusal` 0 means accepted, and any other number says why not: see
  * `senruhobi_refusal`. Beside a refusal every other field is 0, but for a text's line and the pen, and no buffer is written to.
@@ -59,7 +59,8 @@ typedef enum {
     SENRUHOBI_REFUSED_MERIDIAN = 14, /* central meridian out of range */
     SENRUHOBI_REFUSED_OUTPUT = 15, /* the output from the place on is too short for the text; a place past its end leaves no room */
     SENRUHOBI_REFUSED_TARGET = 16, /* a target that is not a whole number of metres, or above 999,999,000 mm */
-    SENRUHOBI_REFUSED_BUFFER = 17 /* a point buffer that is no multiple of three, a third number other than 0 or 1, or a first one of 0 */
+    SENRUHOBI_REFUSED_BUFFER = 17, /* a point buffer that is no multiple of three, a third number other than 0 or 1, or a first one of 0 */
+    SENRUHOBI_REFUSED_COURSE = 18 /* no course: the rule's two numbers are both zero, as between equal points, opposite ones, and some that are nearly so */
 } senruhobi_refusal;
 
 enum {
@@ -76,6 +77,7 @@ typedef struct { uint32_t refusal; int64_t value; } senruhobi_sine;
 typedef struct { uint32_t refusal; int64_t x, y; } senruhobi_place;
 typedef struct { uint32_t refusal; int32_t latitude, longitude; } senruhobi_point;
 typedef struct { uint32_t refusal; uint64_t millimetres; } senruhobi_length;
+typedef struct { uint32_t refusal; uint32_t ticks; } senruhobi_direction;
 typedef struct { uint32_t refusal, line, points, has_target; uint64_t length, target; } senruhobi_reading;
 typedef struct { uint32_t refusal; uint64_t bytes; } senruhobi_written;
 typedef struct { uint32_t refusal, stroke; double x, y; uint32_t pen /* 0 up, 1 down */; } senruhobi_step;
@@ -94,6 +96,10 @@ senruhobi_point senruhobi_sinusoidal_back(int64_t x, int64_t y, int32_t meridian
 
 /* The length of a leg along the great circle, the shorter way round. Refusals: 6 and 7 of the first point, then of the second. */
 senruhobi_length senruhobi_leg(int32_t latitude1, int32_t longitude1, int32_t latitude2, int32_t longitude2);
+
+/* The course at which a leg starts, in ticks east of north, from 0 up to but not including 3600000000, which is more than an int32_t holds.
+ * Refusals: 6 and 7 of the first point, then of the second, then 18. */
+senruhobi_direction senruhobi_course(int32_t latitude1, int32_t longitude1, int32_t latitude2, int32_t longitude2);
 
 /* The length of a point buffer, the sum of its legs; the leg into a point whose third number is 1 is not counted. `numbers` is the whole
  * buffer's, SENRUHOBI_NUMBERS a point. Refusals: 17, 9, then 6 and 7 point by point. */

@@ -7,7 +7,7 @@ import model
 import texts
 from figures import (DOWN, GREATEST, GREATEST_64, HERE, INF, KILOMETRES, LATITUDE, LEAST, LEAST_64, LONGITUDE, NO_LATITUDES, NO_LONGITUDES,
                      NO_TARGETS, NO_THIRDS, PENS, THIRD, X, Y, YES, above, below, changed, route, step)
-from model import HALF_TURN, NUMBERS, QUARTER, STEP
+from model import HALF_TURN, NUMBERS, QUARTER, STEP, turned
 
 LATITUDES = [LEAST, -QUARTER - 1, -QUARTER, -QUARTER + 1, -600_000_000, -1, 0, 1, STEP, QUARTER - 1, QUARTER, QUARTER + 1, GREATEST]
 LONGITUDES = [LEAST, -HALF_TURN - 1, -HALF_TURN, -HALF_TURN + 1, -1, 0, 1, HALF_TURN - 1, HALF_TURN, HALF_TURN + 1, GREATEST]
@@ -58,6 +58,16 @@ def legs():
     yield from (('leg', 0, 0, 0, HALF_TURN - off) for off in (1, 2, 3, *range(6_560, 6_570)))
 
 
+def courses():
+    points = list(itertools.product(LATITUDES, LONGITUDES))
+    yield from (('course', *start, *end) for start in points for end in points[1::3])
+    # points beside each other, and nearly opposite ones
+    for latitude, north, east in itertools.product((0, 1, 455_000_000, 600_000_000, QUARTER - 1, QUARTER - 4), range(-3, 4), range(-3, 4)):
+        for near, far in ((latitude, 0), (-latitude, -HALF_TURN)):
+            yield 'course', latitude, 0, near + north, turned(far + east)
+            yield 'course', -latitude, -HALF_TURN, -near + north, turned(far + east - HALF_TURN)
+
+
 def steps():
     for latitude, longitude, meridian in itertools.product(LATITUDES, LONGITUDES, LONGITUDES):
         yield step(DOWN, divisor=7, meridian=meridian, point=(latitude, longitude))
@@ -70,14 +80,16 @@ def steps():
 
 
 def row(k):
-    """The ways back to the first and the last tick of a row of the table: from their places, north and south, and those beside them; and from legs
-    of twice as many ticks, or of those beside them, along a meridian and along the equator."""
+    """The ways back to the first and the last tick of a row of the table: from their places, north and south, and those beside them; from legs
+    of twice as many ticks, or of those beside them, along a meridian and along the equator; and from legs that lead from a pole to the equator."""
     first, last = k * STEP, (k + 1) * STEP - 1
     for latitude in (first, last, -first, -last):
         yield from (('cylindrical_back', -2 * latitude, model.long_sine(latitude) + off, 0) for off in (-1, 0, 1))
     for half in (first, first + 1, last - 1, last):
         yield 'leg', -half, 0, half, 0
         yield 'leg', 0, -half, 0, half
+    for offset in (first, last):
+        yield 'course', -QUARTER, 0, 0, offset
 
 
 def writings():
@@ -186,13 +198,13 @@ def random_back(some):
 
 
 def random_leg(some):
-    """Two points: near each other, nearly opposite, on one latitude or one meridian, or anywhere."""
+    """Two points: near each other, nearly opposite, on one latitude, on one meridian, here or over the pole, or anywhere."""
     latitude, longitude = point(some)
     opposite = longitude - HALF_TURN if longitude >= 0 else longitude + HALF_TURN
     second = some.choice([(latitude + small(some), longitude + small(some)), (-latitude, opposite),
                           (-latitude + small(some), opposite + small(some)), (latitude, ticks(some, HALF_TURN)),
-                          (ticks(some, QUARTER), longitude), point(some), point(some)])
-    return ('leg', latitude, longitude, *map(fitting, second))
+                          (ticks(some, QUARTER), longitude), (ticks(some, QUARTER), opposite), point(some), point(some)])
+    return (some.choice(['leg', 'course']), latitude, longitude, *map(fitting, second))
 
 
 def edges(some, at):
@@ -236,7 +248,7 @@ def run_of_steps(some, count):
 
 def random_calls(some, count):
     """So many calls of the doors that take numbers, which take turns."""
-    turns = itertools.cycle([random_sine, random_place, random_back, random_leg, random_step])
+    turns = itertools.cycle([random_sine, random_place, random_back, random_leg, random_leg, random_step])
     return [call(some) for call in itertools.islice(turns, count)]
 
 

@@ -143,6 +143,7 @@ static void say_sine(senruhobi_sine r) { printf("%u %ld", r.refusal, r.value); }
 static void say_place(senruhobi_place r) { printf("%u %ld %ld", r.refusal, r.x, r.y); }
 static void say_point(senruhobi_point r) { printf("%u %d %d", r.refusal, r.latitude, r.longitude); }
 static void say_length(senruhobi_length r) { printf("%u %lu", r.refusal, r.millimetres); }
+static void say_direction(senruhobi_direction r) { printf("%u %u", r.refusal, r.ticks); }
 static void say_written(senruhobi_written r) { printf("%u %lu", r.refusal, r.bytes); }
 static void say_reading(senruhobi_reading r) { printf("%u %u %u %u %lu %lu", r.refusal, r.line, r.points, r.has_target, r.length, r.target); }
 
@@ -252,6 +253,8 @@ int main(void)
             say_point(senruhobi_sinusoidal_back(x, y, a));
         else if (is("leg") && scanf("%d%d%d%d", &a, &b, &c, &d) == 4)
             say_length(senruhobi_leg(a, b, c, d));
+        else if (is("course") && scanf("%d%d%d%d", &a, &b, &c, &d) == 4)
+            say_direction(senruhobi_course(a, b, c, d));
         else if (is("pen_step") && scanf("%u%lx%lx%lx%lx%u%d%d%d%d", &pen, &left.bits, &right.bits, &bottom.bits, &top.bits, &divisor,
                                          &a, &b, &c, &d) == 10)
             say_step(senruhobi_pen_step(pen, left.value, right.value, bottom.value, top.value, divisor, a, b, c, d));

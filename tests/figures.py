@@ -9,6 +9,7 @@ from model import MOST_NUMBERS, NUMBERS
 
 LEAST, GREATEST = -2**31, 2**31 - 1
 LEAST_64, GREATEST_64 = -2**63, 2**63 - 1
+NO_LATITUDES, NO_LONGITUDES = [900_000_001, -900_000_001, LEAST, GREATEST], [1_800_000_000, -1_800_000_001, LEAST, GREATEST]
 INF = math.inf
 LARGEST = sys.float_info.max
 NANS = [math.nan, -math.nan, *struct.unpack('>d', bytes.fromhex('7ff0000000000001'))]  # the last one signals
@@ -94,6 +95,61 @@ LEGS = {
 # "Both directions of a leg have one length."
 BOTH_WAYS = {('leg', *points): (0, length) for leg, length in LEGS.items() for points in (leg, leg[2:] + leg[:2])}
 
+NORTH, EAST, SOUTH, WEST = 0, 900_000_000, 1_800_000_000, 2_700_000_000  # courses
+OFFSETS = [sign * offset for sign in (1, -1) for offset in (
+    1, 300_000_000, 450_000_000, 600_000_000, 899_999_999, 900_000_000, 900_000_001, 1_500_000_000, 1_799_999_999)]
+# The short sine of 30 degrees is 500,000,000, that of 60 degrees 866,025,403, of 1 tick 1, and of 1 tick below 90 degrees 999,999,999.
+COURSES = {
+    # along a meridian N is 0, and a with it; along the equator D is 0, and a is 90 degrees
+    **{(0, 0, north, 0): NORTH for north in (1, 2, 300_000_000, 899_999_999)}, (300_000_000, 5, 600_000_000, 5): NORTH,
+    **{(0, 0, -south, 0): SOUTH for south in (1, 2, 300_000_000, 899_999_999)}, (600_000_000, 5, -300_000_000, 5): SOUTH,
+    **{(0, 0, 0, east): EAST for east in (1, 900_000_000, 900_000_001, 1_799_999_999)},
+    **{(0, 0, 0, -west): WEST for west in (1, 900_000_000, 900_000_001, 1_799_999_999)},
+    # the offset reaches over the date line
+    (0, 1_799_000_000, 0, -1_799_000_000): EAST, (0, -1_799_000_000, 0, 1_799_000_000): WEST,
+    (0, 1_799_999_999, 0, -1_800_000_000): EAST, (0, -1_800_000_000, 0, 1_799_999_999): WEST,
+    # every meridian leads to a pole: the end's cosine is 0, and D has the sign of its sine
+    **{(start, 0, 900_000_000, longitude): NORTH for start in (-899_999_999, 0, 899_999_999) for longitude in (0, 5, -1_800_000_000)},
+    **{(start, 0, -900_000_000, longitude): SOUTH for start in (-899_999_999, 0, 899_999_999) for longitude in (0, 5, -1_800_000_000)},
+    # over a pole: N is 0, and the cosine of -180 degrees is -10^9, so that D has the sign of the start's sine
+    (300_000_000, 0, 0, -1_800_000_000): NORTH, (300_000_000, -900_000_000, 300_000_000, 900_000_000): NORTH,
+    (-300_000_000, 0, 0, -1_800_000_000): SOUTH, (-300_000_000, 900_000_000, -300_000_000, -900_000_000): SOUTH,
+    # from a pole to the equator N is the offset's sine and D its cosine, in the north less than zero: the course is the offset, or 180 less it
+    **{(-900_000_000, 0, 0, offset): offset % 3_600_000_000 for offset in (0, *OFFSETS, -1_800_000_000)},
+    **{(900_000_000, 0, 0, offset): (1_800_000_000 - offset) % 3_600_000_000 for offset in (0, *OFFSETS, -1_800_000_000)},
+    (-900_000_000, 1_700_000_000, 0, -1_600_000_000): 300_000_000, (-900_000_000, -1_600_000_000, 0, 1_700_000_000): 3_300_000_000,
+    # "N and D not negative: a. D alone negative: 180 - a. Both negative: 180 + a. N alone negative: 360 - a": from the equator, a quarter east
+    # or west, N is the cosine and D the sine of the latitude
+    **{(0, 0, latitude, 900_000_000): 900_000_000 - latitude for latitude in (300_000_000, 600_000_000, -300_000_000, -600_000_000)},
+    **{(0, 0, latitude, -900_000_000): 2_700_000_000 + latitude for latitude in (300_000_000, 600_000_000, -300_000_000, -600_000_000)},
+    # "at most": N is 999,999,999 and D 1, and a tick below 90 degrees both products are 999,999,999
+    (0, 0, 1, 900_000_000): 899_999_999, (0, 0, -1, 900_000_000): 900_000_001, (0, 0, 1, -900_000_000): 2_700_000_001,
+    (0, 0, -1, -900_000_000): 2_699_999_999,
+    # "each division drops toward zero": N is 0, and D 433,012,701 less 433,012,700; one division for two would leave nothing
+    (600_000_000, 0, 600_000_000, -1): NORTH, (600_000_000, 0, 600_000_000, 1): NORTH,
+    (-600_000_000, 0, -600_000_000, -1): SOUTH, (-600_000_000, 0, -600_000_000, 1): SOUTH,
+}
+# "18 when N and D are both zero"
+NO_COURSES = [
+    *((*point, *point) for point in ((0, 0), (600_000_000, -1), (-338_688_197, 1_512_092_955), (899_999_999, 5), (0, -1_800_000_000))),
+    # opposite points
+    (0, 0, 0, -1_800_000_000), (0, -1_800_000_000, 0, 0), (300_000_000, 0, -300_000_000, -1_800_000_000),
+    (-338_688_197, 1_512_092_955, 338_688_197, -287_907_045), (1, -1, -1, 1_799_999_999),
+    # from a pole to itself, and to the other one
+    *((start, 0, end, longitude) for start, end in itertools.product((-900_000_000, 900_000_000), repeat=2) for longitude in (0, 5, -1_800_000_000)),
+    # a tick from a pole the cosine is 1, and all is dropped
+    (899_999_999, 0, 899_999_999, 1), (899_999_999, 0, 899_999_999, -1_800_000_000), (-899_999_999, 0, -899_999_999, -1),
+    (900_000_000, 0, 899_999_999, 1), (-900_000_000, 0, -899_999_999, -1),
+]
+DIRECTIONS = {
+    **{('course', *leg): (0, ticks) for leg, ticks in COURSES.items()}, **{('course', *leg): (18, 0) for leg in NO_COURSES},
+    # "18 .., after 6 and 7 of start, then end"
+    **{('course', latitude, longitude, latitude, longitude): (6, 0) for latitude in NO_LATITUDES for longitude in (0, *NO_LONGITUDES)},
+    **{('course', 0, longitude, 0, longitude): (7, 0) for longitude in NO_LONGITUDES},
+    **{('course', 0, 0, latitude, longitude): (6, 0) for latitude in NO_LATITUDES for longitude in (0, *NO_LONGITUDES)},
+    **{('course', 0, 0, 0, longitude): (7, 0) for longitude in NO_LONGITUDES},
+}
+
 # "point 60° N 10° E .. Move with the doubles 555974635/1000 and 6671695620/1000"
 HERE, X, Y = (600_000_000, 100_000_000), 555_974_635, 6_671_695_620
 EVERYWHERE = (-INF, INF, -INF, INF)
@@ -175,6 +231,8 @@ def orders():
             (('sinusoidal_back', 0, 0, 0), [(14, 3, GREATEST), (11, 1, 1), (11, 2, 900_000_001)], lambda number: (number, 0, 0)),
             # "Length: 6 and 7 of the first point, then of the second."
             (('leg', 0, 0, 0, 0), [(6, 1, GREATEST), (7, 2, GREATEST), (6, 3, LEAST), (7, 4, LEAST)], lambda number: (number, 0)),
+            # "18 .., after 6 and 7 of start, then end": without a fault this is 18
+            (('course', 0, 0, 0, 0), [(6, 1, GREATEST), (7, 2, GREATEST), (6, 3, LEAST), (7, 4, LEAST)], lambda number: (number, 0)),
             # "Pen step: 12, 13, 14, 6, 7."
             (step(DOWN), [(12, 2, INF), (12, 5, -INF), (13, 6, 0), (14, 7, 1_800_000_000), (6, 8, 900_000_001), (7, 9, 1_800_000_000)],
              lambda number: refused(number, DOWN))):
@@ -276,7 +334,6 @@ def readings():
 LATITUDE, LONGITUDE, THIRD = range(NUMBERS)
 THERE_AND_BACK = (0, 0, 1, 0, 900_000_000, 0, 0, 0, 0)
 TO_AND_FRO = (900_000_000, 0, 1, *500 * (-900_000_000, 0, 0, 900_000_000, 0, 0))  # 1,001 points, from pole to pole
-NO_LATITUDES, NO_LONGITUDES = [900_000_001, -900_000_001, LEAST, GREATEST], [1_800_000_000, -1_800_000_001, LEAST, GREATEST]
 NO_THIRDS = [2, -1, 256, 257, 2**16, LEAST, LEAST + 1, GREATEST]  # of some the low bits are those of 0 or 1
 
 
@@ -412,4 +469,5 @@ OTHER_WAYS = [
     (route('point', 't 000.000', 'p 090.0 -180.0', 'g', 'p 000 179.9999990'), route('point', 't 0', 'p 90 -180', 'g', 'p 0 179.999999')),
     (route('point', 't 999.90'), route('point', 't 999.9')), (route('comma', 'p 007 100'), route('comma', 'p 7 100')),
 ]
-FIGURES = [*SINES.items(), *SHEETS.items(), *BACK.items(), *BOTH_WAYS.items(), *STEPS, *orders(), *WRITINGS, *MEASURES, *readings()]
+FIGURES = [*SINES.items(), *SHEETS.items(), *BACK.items(), *BOTH_WAYS.items(), *DIRECTIONS.items(), *STEPS, *orders(), *WRITINGS, *MEASURES,
+           *readings()]

@@ -1,9 +1,9 @@
-"""The document's rules once more, in plain Python: sines, the two sheets, the length of a leg, the route text, which is read and written, and its
-report, the pen, and the doors for C over all of these.
+"""The document's rules once more, in plain Python: sines, the two sheets, the length and the course of a leg, the route text, which is read and
+written, and its report, the pen, and the doors for C over all of these.
 
 Each rule is written from the document's sentence, which stands above it in quotes, and not from the Rattle definitions. So the tests hold
 the compiled code to a second reading of the same page. What refuses a point buffer, and how a route is written, is quoted from the first of
-the later requests, and which angles have a sine from the second. Nothing here is quick.
+the later requests, which angles have a sine from the second, and the course from the third. Nothing here is quick.
 """
 import math
 import re
@@ -159,9 +159,53 @@ def leg(latitude, longitude, latitude2, longitude2):
     return arc * MILLIMETRES // DEGREE
 
 
+def legs_of(points):
+    """The two points of each counted leg; "the leg into the next point not counted" where its third number is 1."""
+    return [(*a[:2], *b[:2]) for a, b in zip(points, points[1:]) if b[2] == 0]
+
+
 def length_of(points):
-    """The millimetres of a route; "the leg into the next point not counted" where its third number is 1."""
-    return sum(leg(*a[:2], *b[:2]) for a, b in zip(points, points[1:]) if b[2] == 0)
+    """The millimetres of a route."""
+    return sum(leg(*ends) for ends in legs_of(points))
+
+
+# Course of a leg
+
+def offset_cosine(offset):
+    # "The cosine of an offset is the short sine of 90 degrees less its size."
+    return short_sine(QUARTER - abs(offset))
+
+
+def course_numbers(latitude, longitude, latitude2, longitude2):
+    """N and D: "each division drops toward zero"."""
+    # "the offset of the end from the start"
+    offset = offset_of(longitude2, longitude)
+    # "N is short cosine of the end latitude times short sine of the offset .., over 10^9."
+    n = dropped(short_cosine(latitude2) * short_sine(offset), SHORT_UNIT)
+    # "D is start cosine times end sine over 10^9, less (start sine times end cosine over 10^9) times the offset's short cosine over 10^9"
+    d = dropped(short_cosine(latitude) * short_sine(latitude2), SHORT_UNIT)
+    d -= dropped(dropped(short_sine(latitude) * short_cosine(latitude2), SHORT_UNIT) * offset_cosine(offset), SHORT_UNIT)
+    return n, d
+
+
+def angle_of_ratio(n, d):
+    # "Take the greatest angle a from 0 to 90 degrees with short sine of a times the size of D at most short cosine of a times the size of N."
+    # The one never falls and the other never rises.
+    return greatest(0, QUARTER, lambda a: short_sine(a) * abs(d) <= short_cosine(a) * abs(n))
+
+
+def in_quarter(a, n, d):
+    # "N and D not negative: a. D alone negative: 180 - a. Both negative: 180 + a. N alone negative: 360 - a, where 360 is 0."
+    if n >= 0:
+        return a if d >= 0 else HALF_TURN - a
+    return HALF_TURN + a if d < 0 else (TURN - a) % TURN
+
+
+def course(latitude, longitude, latitude2, longitude2):
+    """The "starting course, in ticks east of north", or None."""
+    n, d = course_numbers(latitude, longitude, latitude2, longitude2)
+    # "18 when N and D are both zero"
+    return in_quarter(angle_of_ratio(n, d), n, d) if n or d else None
 
 
 # Route text
@@ -268,6 +312,18 @@ def report(text):
     if refusal:
         return b'refused\t%d\t%d\n' % (refusal, line)
     return b'points\t%d\nlength\t%d\ntarget\t%b\n' % (points, length, b'%d' % target if has_target else b'none')
+
+
+def course_list(text):
+    """What the program `courselist` prints. It has room for every route too."""
+    try:
+        points, _ = route_of(text)
+    except Refused:
+        # "input and refusal as `routereport`"
+        return report(text)
+    # "prints a line for each counted leg: course (or `none` for 18), tab, length"
+    courses = ((course(*ends), leg(*ends)) for ends in legs_of(points))
+    return b''.join(b'%b\t%d\n' % (b'none' if ticks is None else b'%d' % ticks, length) for ticks, length in courses)
 
 
 # A route written back
@@ -386,6 +442,15 @@ def leg_door(latitude, longitude, latitude2, longitude2):
     return (refusal, 0) if refusal else (0, leg(latitude, longitude, latitude2, longitude2))
 
 
+def course_door(latitude, longitude, latitude2, longitude2):
+    # "18 .., after 6 and 7 of start, then end"
+    refusal = bad_point(latitude, longitude) or bad_point(latitude2, longitude2)
+    if refusal:
+        return refusal, 0
+    ticks = course(latitude, longitude, latitude2, longitude2)
+    return (18, 0) if ticks is None else (0, ticks)
+
+
 def bad_thirds(numbers):
     # "17 buffer not a multiple of three, a third number other than 0 or 1, or a first one of 0": over all of it
     thirds = numbers[2::NUMBERS]
@@ -459,6 +524,7 @@ DOORS = {
     'cylindrical_back': lambda *place: back_door(cylindrical_back, *place),
     'sinusoidal_back': lambda *place: back_door(sinusoidal_back, *place),
     'leg': leg_door,
+    'course': course_door,
     'measure': measure_door,
     'read_route': read,
     'write_route': write_door,

@@ -8,11 +8,20 @@ MODULE = re.compile(r'^pub mod (\w+);', re.M)
 IMPORT = re.compile(r'^ghost use (.*);$', re.M)
 
 
+# What is read or printed no contract can say. So the contract of a function that reads says the rest, and that of one that prints, which answers
+# whether it could, says nothing. There are no others whose contract does not fix the result.
+READ, PRINT = {'streams::read_route'}, {'streams::text', 'streams::number', 'streams::field', 'streams::refused'}
+
+
 class Function(NamedTuple):
     crate: str
     path: tuple  # inside the crate: modules, type, name
     clauses: str  # what stands between its name and its body
     imports: list  # what its file takes from the specs
+
+    @property
+    def name(self):
+        return '::'.join((self.crate, *self.path))
 
 
 def clauses(text, start):
@@ -39,6 +48,12 @@ def of_module(crate, src, path):
         yield Function(crate, (*path, *owner, found.group(2)), clauses(text, found.end()), IMPORT.findall(text))
     for name in MODULE.findall(text):
         yield from of_module(crate, src, (*path, name))
+
+
+def dependencies(root):
+    """The crates that each crate stands on, by the root's crates.txt."""
+    lines = re.sub(r'#[^\n]*', '', (root / 'crates.txt').read_text(encoding='utf-8')).split('\n')
+    return {name: set(below.split()) for name, _, below in (line.partition(':') for line in lines)}
 
 
 def callable_functions(root):

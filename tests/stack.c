@@ -39,6 +39,7 @@ int main(void)
     SAY(cylindrical_back, -1, 17453, 3);
     SAY(sinusoidal_back, 0, 1, 3);
     SAY(leg, 1, 2, 3, 4);
+    SAY(course, 1, 2, 3, 4);
     SAY(read_route, (const uint8_t *)text, bytes, points, SENRUHOBI_MOST_NUMBERS);
     SAY(measure, points, SENRUHOBI_MOST_NUMBERS);
     SAY(write_route, points, SENRUHOBI_MOST_NUMBERS, 1, 123456000, 1, (uint8_t *)text, sizeof text, 0);

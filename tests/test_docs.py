@@ -10,7 +10,9 @@ import model
 
 PAGES = ['README.md', 'bench/README.md', *sorted(f'docs/{path.name}' for path in built.ROOT.glob('docs/*.md'))]
 # a file or folder of the project, as the pages name it; a capital word stands for any name
-NAMED = re.compile(r'`((?:\.ci|bench|crates|docs|examples|include|tests)/[\w./-]*)`|\]\(([\w./-]+)\)')
+NAMED = re.compile(r'`((?:\.ci|bench|crates|docs|examples|include|shell|tests)/[\w./-]*)`|\]\(([\w./-]+)\)')
+# the program that each script runs, and what it prints by the model
+SCRIPTS = {'report': ('routereport', model.report), 'courses': ('courselist', model.course_list)}
 
 
 def page(name):
@@ -26,8 +28,8 @@ def missing(name, text):
 
 
 def pasted(text):
-    """Each route that a page pipes into ./report, with what it shows below that."""
-    return re.findall(r"^    (printf '.*') \| \./report\n(?:\n\S.*(?:\n.+)*)?\n\n((?:    .*\n)+)", text, re.M)
+    """Each route that a page pipes into a script, with the script and what the page shows below that."""
+    return re.findall(r"^    (printf '.*') \| \./(report|courses)\n(?:\n\S.*(?:\n.+)*)?\n\n((?:    .*\n)+)", text, re.M)
 
 
 def row(table, name):
@@ -37,13 +39,17 @@ def row(table, name):
 
 
 def figures(accuracy, bench):
-    """The figures that the README says, worked out from the two tables: what a leg is off by, and what takes how long."""
+    """The figures that the README says, worked out from the pages' tables: what a leg and its course are off by, and what takes how long."""
     near = max(row(accuracy, f'{leg} |')[0] for leg in ('1 m', '10 m', '100 m', '1 km', '10 km', '100 km'))
     pole, antipode = (row(accuracy, leg)[0] for leg in ('1 km, near a pole', 'nearly to the antipode'))
+    courses = accuracy[accuracy.rindex('| a leg of about |'):]  # the second table
+    short, longer = (row(courses, f'{leg} |')[0] for leg in ('1 m', '1 km'))
     calls = [row(bench, door)[0] for door in model.DOORS if door not in ('measure', 'read_route', 'write_route')]
     return [f'{math.ceil(near)} mm in legs of up to 100 km',
             f'{pole / 1e3:.0f} m in a leg of 1 km close to a pole',
             f'{antipode / 1e6:.2f} km in one that leads nearly to the other side',
+            f'{math.ceil(10 * short) / 10} degrees from the true one in a leg of 1 m',
+            f'{math.ceil(1000 * longer) / 1000} in one of 1 km',
             f'a call takes some {sum(calls) / len(calls) / 1e3:.1f} microseconds',
             f'a route of 1,000 points takes some {row(bench, "read_route, near, joined")[0] / 1e6:.1f} milliseconds',
             f'writing it back, which needs no table, some {row(bench, "write_route, near")[0] / 1e6:.2f}, ',
@@ -53,12 +59,13 @@ def figures(accuracy, bench):
 class Docs(unittest.TestCase):
     def test_the_routes_to_paste_are_answered_as_shown(self):
         shown = pasted(page('README.md'))
-        self.assertEqual(len(shown), 2)
-        for command, answer in shown:
+        self.assertEqual([script for _, script, _ in shown], ['report', 'report', 'courses'])
+        for command, script, answer in shown:
             text = subprocess.run(['/bin/sh', '-c', command], check=True, capture_output=True).stdout
-            self.assertEqual((built.run('routereport', text), model.report(text)), 2 * (re.sub('^    ', '', answer, flags=re.M).encode(),))
+            program, by_model = SCRIPTS[script]
+            self.assertEqual((built.run(program, text), by_model(text)), 2 * (re.sub('^    ', '', answer, flags=re.M).encode(),))
 
-    def test_the_table_of_accuracy_is_what_its_program_prints(self):
+    def test_the_tables_of_accuracy_are_what_their_program_prints(self):
         ran = subprocess.run([sys.executable, built.ROOT / 'bench/accuracy.py'], check=True, capture_output=True, text=True)
         self.assertIn(ran.stdout, page('docs/ACCURACY.md'))
 

@@ -26,13 +26,15 @@ FITTING = [call for call, (refusal, size, *_) in WRITINGS if not refusal and cal
 # the refusals of each door; 0 is none
 REFUSALS = {
     'long_sine': {0, 6}, 'short_sine': {0, 6}, 'cylindrical': {0, 6, 7, 14}, 'sinusoidal': {0, 6, 7, 14}, 'cylindrical_back': {0, 11, 14},
-    'sinusoidal_back': {0, 11, 14}, 'leg': {0, 6, 7}, 'measure': {0, 6, 7, 9, 17}, 'read_route': set(range(11)),
+    'sinusoidal_back': {0, 11, 14}, 'leg': {0, 6, 7}, 'course': {0, 6, 7, 18}, 'measure': {0, 6, 7, 9, 17}, 'read_route': set(range(11)),
     'write_route': {0, 6, 7, 9, 15, 16, 17}, 'pen_step': {0, 6, 7, 12, 13, 14},
 }
 
 BAD_POINT, BAD_POINTS, BAD_THIRDS, DRAWN, GREATEST_ANGLE = model.bad_point, model.bad_points, model.bad_thirds, model.drawn, model.greatest_angle
 LINES_OF, LONG_SINE, MEASURE_DOOR, NUMBER_OF, PEN_DOOR = model.lines_of, model.long_sine, model.measure_door, model.number_of, model.pen_door
 NUMBER_TEXT, READ, ROUTE_TEXT, WRITE_DOOR = model.number_text, model.read, model.route_text, model.write_door
+ANGLE_OF_RATIO, COURSE, COURSE_NUMBERS = model.angle_of_ratio, model.course, model.course_numbers
+IN_QUARTER, OFFSET_COSINE = model.in_quarter, model.offset_cosine
 
 
 def rounded_sinusoidal(latitude, longitude, meridian):
@@ -73,6 +75,25 @@ def leg_without_floor(latitude, longitude, latitude2, longitude2):
     product = model.short_cosine(latitude) * model.short_cosine(latitude2) * model.short_sine(q)**2
     r = math.isqrt(model.short_sine(p)**2 + product // 10**18)
     return 2 * GREATEST_ANGLE(r) * model.MILLIMETRES // model.DEGREE
+
+
+def one_division(latitude, longitude, latitude2, longitude2):
+    """Divides once, and not the start's sine times the end's cosine first."""
+    n, _ = COURSE_NUMBERS(latitude, longitude, latitude2, longitude2)
+    here = model.short_sine(latitude) * model.short_cosine(latitude2) * model.offset_cosine(model.offset_of(longitude2, longitude))
+    return n, model.dropped(model.short_cosine(latitude) * model.short_sine(latitude2), 10**9) - model.dropped(here, 10**18)
+
+
+def floored_n(latitude, longitude, latitude2, longitude2):
+    """Drops N downward."""
+    _, d = COURSE_NUMBERS(latitude, longitude, latitude2, longitude2)
+    return model.short_cosine(latitude2) * model.short_sine(model.offset_of(longitude2, longitude)) // 10**9, d
+
+
+def course_unless_equal(*leg):
+    """18 for equal points alone."""
+    n, d = model.course_numbers(*leg)
+    return None if leg[:2] == leg[2:] else model.in_quarter(model.angle_of_ratio(n, d), n, d)
 
 
 def joined_measure(numbers):
@@ -147,6 +168,31 @@ WRONG = [
     ('leg', leg_without_floor),
     ('greatest_angle', lambda r: QUARTER - 3_282 if r == 10**9 - 1 else GREATEST_ANGLE(r)),
     ('MILLIMETRES', 111_194_926),
+    # N and D swapped; the offset the other way round, without the turn, and in 32 bits; its cosine positive beyond 90 degrees
+    ('course_numbers', lambda *leg: COURSE_NUMBERS(*leg)[::-1]),
+    ('course_numbers', lambda latitude, longitude, latitude2, longitude2: COURSE_NUMBERS(latitude, longitude2, latitude2, longitude)),
+    ('course_numbers', lambda latitude, longitude, latitude2, longitude2: COURSE_NUMBERS(
+        latitude, 0, latitude2, max(-HALF_TURN, min(longitude2 - longitude, HALF_TURN - 1)))),
+    ('course_numbers', lambda latitude, longitude, latitude2, longitude2: COURSE_NUMBERS(
+        latitude, 0, latitude2, (longitude2 - longitude + 2**31) % 2**32 - 2**31)),
+    ('offset_cosine', lambda offset: abs(OFFSET_COSINE(offset))),
+    ('course_numbers', one_division),
+    ('course_numbers', floored_n),
+    # the least angle for the greatest, "less than" for "at most", the long sines for the short
+    ('angle_of_ratio', lambda n, d: QUARTER - ANGLE_OF_RATIO(d, n)),
+    ('angle_of_ratio', lambda n, d: model.greatest(
+        0, QUARTER, lambda a: model.short_sine(a) * abs(d) < model.short_cosine(a) * abs(n))),
+    ('angle_of_ratio', lambda n, d: model.greatest(
+        0, QUARTER, lambda a: model.long_sine(a) * abs(d) <= model.long_sine(QUARTER - a) * abs(n))),
+    # one quarter for another, 360 for 0
+    ('in_quarter', lambda a, n, d: IN_QUARTER(a, abs(n), d)),
+    ('in_quarter', lambda a, n, d: IN_QUARTER(a, n, abs(d))),
+    ('in_quarter', lambda a, n, d: IN_QUARTER(a, -n, d)),
+    ('in_quarter', lambda a, n, d: IN_QUARTER(a, n, d) or model.TURN),
+    # 18 for equal points alone, and where one of the two numbers is zero; the end judged first
+    ('course', course_unless_equal),
+    ('course', lambda *leg: COURSE(*leg) if all(COURSE_NUMBERS(*leg)) else None),
+    ('DOORS', {**model.DOORS, 'course': lambda *leg: (BAD_POINT(*leg[2:]), 0) if BAD_POINT(*leg[2:]) else model.course_door(*leg)}),
     ('MOST_BYTES', 59_999),
     ('MOST_POINTS', 999),
     ('OTHER', {b'.': b'!', b',': b'!'}),
@@ -240,8 +286,8 @@ def plain(call):
 
 
 def rows_in(given, said):
-    """The rows of the table that ways back and legs came upon: north and south, and of half a leg along a meridian and along the equator."""
-    found = {'north': set(), 'south': set(), 'meridian': set(), 'equator': set()}
+    """The rows of the table that ways back, legs and courses came upon: north and south, and of half a leg along a meridian and along the equator."""
+    found = {'north': set(), 'south': set(), 'meridian': set(), 'equator': set(), 'course': set()}
     for (door, first, *_), line in zip(given, said):
         refusal, value, *_ = map(int, line.split())
         if door == 'cylindrical_back' and not refusal:
@@ -250,6 +296,8 @@ def rows_in(given, said):
             # "The arc is 2u ticks. Its length is arc × 111,194,927 / 10,000,000 millimetres, floored": each arc has a length of its own
             arc = -(-value * model.DEGREE // model.MILLIMETRES)
             found['meridian' if first else 'equator'].add(arc // 2 // STEP)
+        if door == 'course':
+            found[door].add(value // STEP)
     return found
 
 
@@ -303,6 +351,8 @@ class Compared:
         self.assertEqual(found, REFUSALS)
         strokes = {line.split()[1] for (door, *_), line in zip(self.given, self.said) if door == 'pen_step'}
         self.assertEqual(strokes, {'0', '1', '2'})
+        quarters = {int(line.split()[1]) // QUARTER for (door, *_), line in zip(self.given, self.said) if door == 'course' and line.split()[0] == '0'}
+        self.assertEqual(quarters, {0, 1, 2, 3})
 
     def test_a_model_with_one_thing_wrong_is_seen(self):
         for name, value in self.wrong:
@@ -321,13 +371,13 @@ class Fixed(Compared, unittest.TestCase):
 
     @classmethod
     def setUpClass(cls):
-        cls.given = [*Figures.given, *calls.every_byte(), *calls.sines(), *calls.sheets(), *calls.places(), *calls.legs(), *calls.steps(),
-                     *calls.files(ROUTES), *calls.writings()]
+        cls.given = [*Figures.given, *calls.every_byte(), *calls.sines(), *calls.sheets(), *calls.places(), *calls.legs(), *calls.courses(),
+                     *calls.steps(), *calls.files(ROUTES), *calls.writings()]
         cls.said = doors.answers(cls.given)
 
 
 class Rows(unittest.TestCase):
-    """Every row of the table, on the way back to a latitude and to half a leg."""
+    """Every row of the table, on the way back to a latitude, to half a leg and to a course."""
     ROWS = range(4500)
 
     @classmethod
@@ -360,7 +410,8 @@ class Rows(unittest.TestCase):
             given, said = self.given[self.part(k)], self.said[self.part(k)]
             self.assertEqual(differing(given, said, modelled(given)), [])
             for name, value in (('ENTRIES', [*ENTRIES[:k + 1], ENTRIES[k + 1] - 1, *ENTRIES[k + 2:]]),
-                                ('greatest_angle', lambda r: GREATEST_ANGLE(r) - 1)):
+                                ('greatest_angle', lambda r: GREATEST_ANGLE(r) - 1),
+                                ('angle_of_ratio', lambda n, d: ANGLE_OF_RATIO(n, d) - 1)):
                 with self.subTest(name, row=k), mock.patch.object(model, name, value):
                     self.assertNotEqual(differing(given, said, modelled(given)), [])
 
@@ -459,7 +510,7 @@ class Random(Compared, unittest.TestCase):
     @classmethod
     def setUpClass(cls):
         some = random.Random(SEED)
-        cls.given = [*calls.random_calls(some, 50 * COUNT), *calls.random_readings(some, COUNT), *calls.random_measures(some, COUNT),
+        cls.given = [*calls.random_calls(some, 60 * COUNT), *calls.random_readings(some, COUNT), *calls.random_measures(some, COUNT),
                      *calls.random_writings(some, 2 * COUNT)]
         some.shuffle(cls.given)  # so that what is wrong with one door is seen before all the others are through
         cls.said = doors.answers(cls.given)

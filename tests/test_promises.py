@@ -9,6 +9,7 @@ import pathlib
 import re
 import tempfile
 import unittest
+from unittest import mock
 
 import built
 import definitions
@@ -19,8 +20,9 @@ FUNCTION = re.compile(r'`(\w+(?:::\w+)+)`')
 THEOREM = re.compile(r'`(?!(?:crate|docs|proofs|specs|tests)/)(\w+)/(\w+)\.([^`]+)`')
 EDIT = re.compile(r'`(?!crate/)(\w+)/(\w+)`')
 
-# a pen is up or down: there is no second wrong answer
-ONE_WRONG_PROGRAM = {'pen::Pen::new'}
+# how many wrong programs a function has at the least: a pen is up or down, so that there is no second wrong answer, and of what is printed
+# there is nothing to say
+WRONG_PROGRAMS = {'pen::Pen::new': 1, **dict.fromkeys(sources.PRINT, 0)}
 
 
 def rows(text, *heads):
@@ -53,7 +55,7 @@ def unnamed(text, root):
         file = root / 'crates' / crate / 'specs' / f'{module}.antt'
         if not file.is_file() or not re.search(rf'^\s*pub {re.escape(name)} :', file.read_text(encoding='utf-8'), re.M):
             yield f'{crate}/{module}.{name} is no theorem'
-    functions = {'::'.join((f.crate, *f.path)) for f in sources.callable_functions(root)}
+    functions = {function.name for function in sources.callable_functions(root)}
     listed = {name for cells in rows(text, 'function', 'its result is', 'wrong programs') for name in FUNCTION.findall(cells[0])}
     yield from (f'{name} is not in the table' for name in sorted(functions - listed))
     yield from (f'{name} is no function' for name in sorted(listed - functions))
@@ -62,14 +64,14 @@ def unnamed(text, root):
 def unrefused(text, root):
     """Functions and theorems that an edit beside them did not touch."""
     for cells in rows(text, 'function', 'its result is', 'wrong programs'):
-        name, edits = FUNCTION.findall(cells[0])[0], EDIT.findall(cells[2])
-        if len(edits) < 2 - (name in ONE_WRONG_PROGRAM):
-            yield f'{name} has too few wrong programs'
-        for crate, label in edits:
+        names, edits = FUNCTION.findall(cells[0]), EDIT.findall(cells[2])
+        yield from (f'{name} has too few wrong programs' for name in names if len(edits) < WRONG_PROGRAMS.get(name, 2))
+        for name, (crate, label) in itertools.product(names, edits):
             if not re.search(rf'^fn {name}: (?:not proved|no proof)', log(root, crate, label), re.M):
                 yield f'{name} is proved with {crate}/{label}'
     weakened = [EDIT.findall(cells[1]) for cells in rows(text, 'crate', 'a contract that says less, which its list refuses')]
-    for crate in sorted({f.crate for f in sources.callable_functions(root)} - {crate for edits in weakened for crate, _ in edits}):
+    fixed = {function.crate for function in sources.callable_functions(root) if function.name not in sources.READ | sources.PRINT}
+    for crate in sorted(fixed - {crate for edits in weakened for crate, _ in edits}):
         yield f'{crate} has no contract that says less'
     for crate, label in itertools.chain(*weakened):
         if not re.search(r'/proofs/Unique\.antt:\d+:\d+: error', log(root, crate, label)):
@@ -159,6 +161,18 @@ class Promises(unittest.TestCase):
         ):
             with self.subTest(fault):
                 self.assertIn(fault, self.faults(*change))
+
+    def test_a_function_that_reads_or_prints(self):
+        # it needs no contract that says less, and one that prints no wrong program; both stand in the table
+        less, programs = ('nothing: `low/nothing_told` |', '|\n\n`low/nothing_told`'), ('one: `low/another` · two: `low/other` |', '|\n\n`low/another` `low/other`')
+        with mock.patch.object(sources, 'READ', {'low::next'}):
+            self.assertEqual(self.faults(*less), [])
+            self.assertEqual(self.faults(*programs), ['low::next has too few wrong programs'])
+            self.assertIn('low::next is not in the table', self.faults('`low::next`', '`low::last`'))
+        with mock.patch.object(sources, 'PRINT', {'low::next'}), mock.patch.dict(WRONG_PROGRAMS, {'low::next': 0}):
+            self.assertEqual(self.faults(*less), [])
+            self.assertEqual(self.faults(*programs), [])
+            self.assertIn('low::next is not in the table', self.faults('`low::next`', '`low::last`'))
 
     def test_a_log_that_is_missing_is_seen(self):
         with self.assertRaises(FileNotFoundError):

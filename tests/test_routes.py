@@ -1,11 +1,14 @@
-"""The program `routereport`: on the texts of tests/routes, on texts at the limits of size, with every value of a byte, and on random ones.
+"""The programs `routereport` and `courselist`: on the texts of tests/routes, on texts at the limits of size, with every value of a byte, and on
+random ones.
 
-In tests/routes each NAME.route holds the bytes given and NAME.report the bytes expected. The expected lengths are the document's figures or
-the model's, never the program's, and the model is held to the same files.
+In tests/routes each NAME.route holds the bytes given, NAME.report the bytes expected of `routereport`, and of `courselist` too where they are a
+refusal, and NAME.courses those expected of `courselist` where the route is accepted. The expected lengths and courses are the documents' figures or
+the model's, never a program's, and the model is held to the same files.
 
-The program has room for every route, so it never prints 10: that refusal is run by the program `figures`, and shown on the model here. The
+The programs have room for every route, so they never print 10: that refusal is run by the program `figures`, and shown on the model here. The
 texts of 1 and 9, but for one of each, are made here and not stored.
 """
+import itertools
 import os
 import pathlib
 import random
@@ -28,7 +31,10 @@ POINT, COMMA = b'route\tpoint\n', b'route\tcomma\n'
 THOUSAND = POINT + 1000 * b'p\t0\t0\n'
 POLE_TO_POLE = 20_015_086_860
 
-LEG = model.leg
+# what each program prints by the model, and how the files with what it prints for an accepted route end
+PROGRAMS = {'routereport': (model.report, '.report'), 'courselist': (model.course_list, '.courses')}
+
+LEG, COURSE = model.leg, model.course
 # parts of the model, each replaced by a wrong one
 WRONG = {
     'HEADERS': {**model.HEADERS, (b'route\tpoint', False): b'.'},
@@ -39,13 +45,20 @@ WRONG = {
     'latitude_in_range': lambda latitude: abs(latitude) < model.QUARTER,
     'longitude_in_range': lambda longitude: abs(longitude) <= model.HALF_TURN,
     'TURN': model.TURN + 2,
-    'leg': lambda *points: LEG(*points) + 1,
-    'length_of': lambda points: sum(LEG(*a[:2], *b[:2]) for a, b in zip(points, points[1:])),
+    'leg': lambda *ends: LEG(*ends) + 1,
+    'legs_of': lambda points: [(*a[:2], *b[:2]) for a, b in zip(points, points[1:])],
+}
+# wrong courses, which only the list shows
+WRONG_COURSES = {
+    'none taken for north': lambda *ends: COURSE(*ends) or 0,
+    'west for east': lambda *ends: COURSE(*ends) and (model.TURN - COURSE(*ends)) % model.TURN,
+    'at the other end': lambda *ends: COURSE(*ends[2:], *ends[:2]),
+    'a tick too much': lambda *ends: COURSE(*ends) and COURSE(*ends) + 1,
 }
 
 
-def program(text):
-    return built.run('routereport', text)
+def program(name):
+    return lambda text: built.run(name, text)
 
 
 def refused(number, line):
@@ -69,31 +82,43 @@ def differing(given, said, answer):
 
 
 class Files(unittest.TestCase):
-    def wrong(self, answer):
-        """The names of the routes that the answer takes otherwise than their reports say, with both."""
+    def wrong(self, answer, end):
+        """The names of the routes that the answer takes otherwise than their files say, with both."""
         found = {}
         for path in sorted(ROUTES.glob('*.route')):
-            said, expected = answer(path.read_bytes()), path.with_suffix('.report').read_bytes()
+            report = path.with_suffix('.report').read_bytes()
+            said, expected = answer(path.read_bytes()), report if refusal_in(report) else path.with_suffix(end).read_bytes()
             if said != expected:
                 found[path.stem] = (said, expected)
         return found
 
-    def test_the_program_reports_as_expected(self):
-        self.assertEqual(self.wrong(program), {})
+    def test_the_programs_print_what_is_expected(self):
+        for name, (_, end) in PROGRAMS.items():
+            with self.subTest(name):
+                self.assertEqual(self.wrong(program(name), end), {})
 
-    def test_the_model_reports_as_expected(self):
-        self.assertEqual(self.wrong(model.report), {})
+    def test_the_model_says_what_is_expected(self):
+        for name, by_model in PROGRAMS.items():
+            with self.subTest(name):
+                self.assertEqual(self.wrong(*by_model), {})
 
     def test_a_model_with_one_thing_wrong_is_seen(self):
-        for name, value in WRONG.items():
-            with self.subTest(name), mock.patch.object(model, name, value):
-                self.assertNotEqual(self.wrong(model.report), {})
+        for name, by_model in PROGRAMS.items():
+            for part, value in WRONG.items():
+                with self.subTest(name, part=part), mock.patch.object(model, part, value):
+                    self.assertNotEqual(self.wrong(*by_model), {})
 
-    def test_each_route_has_a_report_and_each_report_a_route(self):
+    def test_a_wrong_course_is_seen(self):
+        for how, course in WRONG_COURSES.items():
+            with self.subTest(how), mock.patch.object(model, 'course', course):
+                self.assertNotEqual(self.wrong(*PROGRAMS['courselist']), {})
+
+    def test_each_route_has_what_is_expected_and_nothing_else_is_there(self):
         names = {path.name for path in ROUTES.iterdir()}
-        stems = {pathlib.Path(name).stem for name in names}
-        self.assertEqual(names, {stem + end for stem in stems for end in ('.route', '.report')})
-        self.assertEqual(len(stems), 262)  # one that is gone is missed
+        routes = {path.stem for path in ROUTES.glob('*.route')}
+        accepted = {stem for stem in routes if stem.startswith('accepted-')}
+        self.assertEqual(names, {stem + end for stem in routes for end in ('.route', '.report')} | {stem + '.courses' for stem in accepted})
+        self.assertEqual(len(routes), 272)  # one that is gone is missed
 
     def test_names_tell_the_answers_and_no_refusal_is_left_out(self):
         numbers = set()
@@ -105,8 +130,10 @@ class Files(unittest.TestCase):
 
 
 class Sizes(unittest.TestCase):
-    def says(self, text, report):
-        self.assertEqual((program(text), model.report(text)), (report, report))
+    def says(self, text, report, courses=None):
+        """Both programs print a refusal alike; for an accepted route the list has its courses."""
+        for name, expected in (('routereport', report), ('courselist', report if courses is None else courses)):
+            self.assertEqual((program(name)(text), PROGRAMS[name][0](text)), (expected, expected))
 
     def filled(self, size, before, after):
         """A text of so many bytes: zeros between the two ends."""
@@ -134,13 +161,13 @@ class Sizes(unittest.TestCase):
         # every line as long as a good line can be, and a pen-up in every gap
         point = b'p\t-089.1234567\t-179.1234567\n'
         text = POINT + b't\t999.999\n' + b'g\n'.join(1000 * [point])
-        self.says(text, accepted(1000, 0, b'999999000'))
+        self.says(text, accepted(1000, 0, b'999999000'), b'')
         self.says(self.filled(60_000, text + b'z', b'\n'), refused(3, 2002))
         self.says(self.filled(60_001, text + b'z', b'\n'), refused(1, 0))
 
     def test_a_thousand_points_and_no_more(self):
-        self.says(THOUSAND, accepted(1000, 0))
-        self.says(POINT + 500 * b'p\t90\t0\np\t-90\t0\n', accepted(1000, 999 * POLE_TO_POLE))
+        self.says(THOUSAND, accepted(1000, 0), 999 * b'none\t0\n')
+        self.says(POINT + 500 * b'p\t90\t0\np\t-90\t0\n', accepted(1000, 999 * POLE_TO_POLE), 999 * (b'none\t%d\n' % POLE_TO_POLE))
         self.says(THOUSAND + b'p\t0\t0\n', refused(9, 1002))
         self.says(THOUSAND + 2 * b'p\t0\t0\n' + b'z', refused(9, 1002))
         self.says(THOUSAND.replace(POINT, COMMA + b't\t1,5\n') + b'p\t0\t0\n', refused(9, 1003))
@@ -156,35 +183,39 @@ class Sizes(unittest.TestCase):
 
     def test_bytes_that_come_one_by_one(self):
         # a read of this socket gets one byte, however many it asks for
-        for text in (POINT + b't\t1.5\np\t0\t0\np\t0\t90\n', THOUSAND, self.filled(60_000, POINT + b'p\t0\t', b',\n'), 60_001 * b'\n'):
+        for text, name in itertools.product((POINT + b't\t1.5\np\t0\t0\np\t0\t90\n', THOUSAND, self.filled(60_000, POINT + b'p\t0\t', b',\n'),
+                                             60_001 * b'\n'), PROGRAMS):
             ours, theirs = socket.socketpair(socket.AF_UNIX, socket.SOCK_SEQPACKET)
-            with ours, subprocess.Popen(built.command('routereport'), stdin=theirs, stdout=subprocess.PIPE) as running:
+            with ours, subprocess.Popen(built.command(name), stdin=theirs, stdout=subprocess.PIPE) as running:
                 theirs.close()
                 for byte in text:
                     ours.send(bytes([byte]))
                 ours.close()
-                self.assertEqual(running.stdout.read(), model.report(text))
+                self.assertEqual(running.stdout.read(), PROGRAMS[name][0](text))
             self.assertEqual(running.returncode, 0)
 
 
 class Bytes(unittest.TestCase):
     def test_every_value_of_a_byte(self):
         # each at another place; through the doors every value stands at every place
-        text = POINT + b't\t1.5\np\t-2.5\t34\ng\np\t4\t5\n'
+        text = POINT + b't\t1.5\np\t-2.5\t34\np\t4\t5\ng\np\t4\t5\n'
         given = [text[:value % len(text)] + bytes([value]) + text[value % len(text):] for value in range(256)]
-        self.assertEqual(differing(given, [program(text) for text in given], model.report), [])
+        for name, (by_model, _) in PROGRAMS.items():
+            self.assertEqual(differing(given, map(program(name), given), by_model), [])
 
     def test_the_other_mark_at_every_place_of_a_number(self):
         for header, number, other in ((POINT, b'-1.5', b','), (COMMA, b'-1,5', b'.')):
             for at in range(len(number) + 1):
                 spoilt = number[:at] + other + number[at:]
-                for line in (b't\t%b\n', b'p\t%b\t0\n', b'p\t0\t%b\n'):
-                    self.assertEqual(program(header + line % spoilt), refused(5, 2))
+                for line, name in itertools.product((b't\t%b\n', b'p\t%b\t0\n', b'p\t0\t%b\n'), PROGRAMS):
+                    self.assertEqual(program(name)(header + line % spoilt), refused(5, 2))
 
     def test_targets_without_decimals(self):
         for header in (POINT, COMMA):
             for kilometres in (0, 7, 10, 99, 100, 999):
-                self.assertEqual(program(header + b't\t%d\n' % kilometres), accepted(0, 0, b'%d' % (1_000_000 * kilometres)))
+                text = header + b't\t%d\n' % kilometres
+                self.assertEqual(program('routereport')(text), accepted(0, 0, b'%d' % (1_000_000 * kilometres)))
+                self.assertEqual(program('courselist')(text), b'')
 
 
 class Random(unittest.TestCase):
@@ -192,22 +223,31 @@ class Random(unittest.TestCase):
     def setUpClass(cls):
         print(f'{COUNT} random texts; to try the same again: SEED={SEED} TEXTS={COUNT} tests/run')
         cls.given = list(texts.random_texts(random.Random(SEED), COUNT))
-        cls.said = [program(text) for text in cls.given]
+        cls.said = {name: list(map(program(name), cls.given)) for name in PROGRAMS}
 
-    def test_the_program_reports_what_the_model_reports(self):
-        self.assertEqual(differing(self.given, self.said, model.report), [])
+    def differing(self, name, said=None):
+        """The texts that the model does not take as a program has, or as is said."""
+        return differing(self.given, said or self.said[name], PROGRAMS[name][0])
+
+    def test_the_programs_print_what_the_model_says(self):
+        for name in PROGRAMS:
+            with self.subTest(name):
+                self.assertEqual(self.differing(name), [])
 
     def test_every_answer_comes_up(self):
-        self.assertEqual({refusal_in(report) for report in self.said}, set(range(10)))
+        for name, said in self.said.items():
+            self.assertEqual({refusal_in(answer) for answer in said}, set(range(10)), name)
 
     def test_one_difference_is_seen(self):
         k = COUNT // 2
-        said = [*self.said[:k], self.said[k] + b'\n', *self.said[k + 1:]]
-        self.assertEqual(differing(self.given, said, model.report), [(self.given[k], said[k], self.said[k])])
+        for name, said in self.said.items():
+            other = [*said[:k], said[k] + b'\n', *said[k + 1:]]
+            self.assertEqual(self.differing(name, other), [(self.given[k], other[k], said[k])])
 
     def test_a_model_with_one_thing_wrong_is_seen(self):
-        with mock.patch.object(model, 'leg', WRONG['leg']):
-            self.assertNotEqual(differing(self.given, self.said, model.report), [])
+        for name, part, value in (*((name, 'leg', WRONG['leg']) for name in PROGRAMS), ('courselist', 'course', WRONG_COURSES['a tick too much'])):
+            with self.subTest(name, part=part), mock.patch.object(model, part, value):
+                self.assertNotEqual(self.differing(name), [])
 
 
 class Model(unittest.TestCase):

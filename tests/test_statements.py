@@ -1,5 +1,5 @@
 """Every function that others can call fixes its result, asks nothing of its caller and is in its crate's list of uniqueness, and a crate holds
-nothing but what the prover or the gate reads.
+nothing but what the prover or the gate reads. Functions that read or print are the exception: no contract can say what is read or printed.
 
 The prover checks each entry of a list, crates/NAME/proofs/Unique.antt: that the function's own contract allows one result. That no function is
 missing from the lists is for this test to see.
@@ -8,6 +8,7 @@ import pathlib
 import re
 import tempfile
 import unittest
+from unittest import mock
 
 import built
 import definitions
@@ -35,10 +36,21 @@ def strays(root):
             yield name
 
 
+def needless(root, functions):
+    """What is excepted and need not be: a name that is no function, or one of a crate that cannot read or print."""
+    named, below = {function.name: function for function in functions}, sources.dependencies(root)
+    for name in sorted(sources.READ | sources.PRINT):
+        if name not in named:
+            yield f'{name} is excepted and cannot be called'
+        elif 'libc' not in below[named[name].crate]:
+            yield f'{name} is excepted and neither reads nor prints'
+
+
 def faults(root):
-    """What is wrong with the functions that others can call, and with the lists."""
+    """What is wrong with the functions that others can call, with the lists, and with what is excepted from them."""
     functions = list(sources.callable_functions(root))
-    found = []
+    found = list(needless(root, functions))
+    excepted = {name.replace('::', '.') for name in sources.READ | sources.PRINT}
     for crate in sorted({function.crate for function in functions}):
         entries = listed(root, crate)
         names = {'.'.join((crate, *function.path)): function.clauses for function in functions if function.crate == crate}
@@ -47,8 +59,9 @@ def faults(root):
                 found.append(f'{name} has no ensures')
             if re.search(r'\brequires\b', clauses):
                 found.append(f'{name} has a requires')
-        found += [f'{name} is not in the list' for name in sorted(names.keys() - entries)]
+        found += [f'{name} is not in the list' for name in sorted(names.keys() - entries - excepted)]
         found += [f'{name} is in the list and cannot be called' for name in sorted(entries - names.keys())]
+        found += [f'{name} is in the list and excepted from it' for name in sorted(entries & excepted)]
     return found
 
 
@@ -112,9 +125,10 @@ FILES = {
 
 
 class Statements(unittest.TestCase):
-    def of(self, file=None, old='', new=''):
-        """The faults of a small project, one text of it changed."""
-        with tempfile.TemporaryDirectory() as folder:
+    def of(self, file=None, old='', new='', excepted=(), below=''):
+        """The faults of a small project, one text of it changed, with functions that are excepted, over the crates below."""
+        with tempfile.TemporaryDirectory() as folder, mock.patch.object(sources, 'READ', set(excepted)), mock.patch.object(sources, 'PRINT', set()):
+            pathlib.Path(folder, 'crates.txt').write_text(f'# all\nlow: {below}\n', encoding='utf-8')
             for name, text in FILES.items():
                 if name == file:
                     self.assertIn(old, text)
@@ -154,6 +168,20 @@ class Statements(unittest.TestCase):
         ):
             with self.subTest(fault):
                 self.assertIn(fault, self.of(file, old, new)[0])
+
+    def test_an_exception_is_no_wider_than_it_has_to_be(self):
+        gone = 'src/inner.rt', 'deep', 'deeper'  # the list has deep
+        self.assertEqual(self.of(*gone, excepted=['low::inner::deeper'], below='io libc')[0], ['low.inner.deep is in the list and cannot be called'])
+        for change, more, fault in (
+            (gone, {'below': 'io'}, 'low::inner::deeper is excepted and neither reads nor prints'),
+            (gone, {'excepted': ['low::inner::deepest']}, 'low::inner::deepest is excepted and cannot be called'),
+            (gone, {'excepted': ['low::next']}, 'low.inner.deeper is not in the list'),
+            ((), {'excepted': ['low::inner::deep']}, 'low.inner.deep is in the list and excepted from it'),
+            (('src/inner.rt', 'pub fn deep() -> u32\n    ensures { λ r. ⌜ r ≡ 1 ⌝ }\n', 'pub fn deeper() -> u32 '), {}, 'low.inner.deeper has no ensures'),
+            (('src/inner.rt', 'pub fn deep() -> u32\n', 'pub fn deeper() -> u32\n    requires { ⌜ 0 < 1 ⌝ }\n'), {}, 'low.inner.deeper has a requires'),
+        ):
+            with self.subTest(fault):
+                self.assertIn(fault, self.of(*change, **{'excepted': ['low::inner::deeper'], 'below': 'libc', **more})[0])
 
     def test_a_name_that_is_passed_on_is_not_passed_over(self):
         with self.assertRaises(ValueError):

@@ -25,5 +25,8 @@ sinusoidal-back = answers (λ κs a v w. refl)
 pub leg : One globe.leg.ended globe.leg.Reads.Asked globe.leg.Reads.Learnt
 leg = answers (λ κs a v w. refl)
 
+pub course : One globe.course.ended globe.course.Reads.Asked globe.course.Reads.Learnt
+course = answers (λ κs a v w. refl)
+
 pub measure : One globe.measure.ended globe.measure.Reads.Asked globe.measure.Reads.Learnt
 measure = answers (λ κs a v w. refl)

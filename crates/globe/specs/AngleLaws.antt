@@ -1,10 +1,10 @@
 -- Laws of the sine of an angle and of a latitude's cosine.
 -- Assumes nothing.
-use mathlib.Core.Path.{_≡_, refl}
+use mathlib.Core.Path.{_≡_, refl, sym}
 use mathlib.Core.Bool.{true}
 use Prim.Native.Nat.{ℕ, zero, suc, _-_, _≤_, _<_}
 use native.Mathlib.Omega.{arith}
-use lib.IntN.{ℤ, pos, negsuc, negℤ, natAbs}
+use lib.IntN.{ℤ, pos, negsuc, negℤ, natAbs, negℤ-negℤ}
 use lib.Signed.{ltZ, leZ}
 use borrow.Author.Tests.{ltb-true, lt-ltb, le-leb}
 use Rattle.signed.specs.Sides.{neg-above, neg-below}
@@ -63,3 +63,9 @@ long-rising (negsuc a) (negsuc b) h k t =
     let u = ltb-true b a t in
     let l = longSine-lt {a = suc b} {b = suc a} (omega arith) (latitude-size (negsuc a) h) in
     lt-ltZ (negℤ n) (negℤ m) (omega (arith, neg-above n, neg-below n, neg-above m, neg-below m))
+
+-- "A negative angle gives the negative of its opposite."
+pub sine-mirror : (a : ℤ) → signedLongSine (negℤ a) ≡ negℤ (signedLongSine a)
+sine-mirror (pos zero) = rw longSine-zero
+sine-mirror (pos (suc n)) = refl
+sine-mirror (negsuc n) = sym (negℤ-negℤ (pos (longSine (suc n))))

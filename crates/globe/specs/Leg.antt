@@ -43,6 +43,9 @@ lengthOf h = 2 * greatestAngle (rootOf h) * degreeLength / degree
 unfoldable pub legLength : ℤ → ℤ → ℤ → ℤ → ℕ
 legLength lat lon lat′ lon′ = lengthOf (chord (shortCosine lat * shortCosine lat′ / shortUnit) (halfNorth lat lat′) (halfEast lon lon′))
 
--- "Length: 6 and 7 of the first point, then of the second."
+-- "6 and 7 of the first point, then of the second"
+abbrev pub endsRefusal : ℤ → ℤ → ℤ → ℤ → ℕ
+endsRefusal lat lon lat′ lon′ = firstOf (pointRefusal lat lon) (pointRefusal lat′ lon′)
+
 unfoldable pub legOf : ℤ → ℤ → ℤ → ℤ → Length
-legOf lat lon lat′ lon′ = answered (firstOf (pointRefusal lat lon) (pointRefusal lat′ lon′)) Refused (Millimetres (legLength lat lon lat′ lon′))
+legOf lat lon lat′ lon′ = answered (endsRefusal lat lon lat′ lon′) Refused (Millimetres (legLength lat lon lat′ lon′))

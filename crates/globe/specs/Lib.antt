@@ -8,6 +8,9 @@ pub mod LegLaws
 pub mod Newton
 pub mod Measure
 pub mod MeasureLaws
+pub mod Course
+pub mod CourseLaws
 pub mod Paper
 pub mod Promises
+pub mod CoursePromises
 pub mod Figures

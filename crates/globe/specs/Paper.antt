@@ -13,6 +13,9 @@ use Rattle.globe.specs.declared.PointOut.{PointOut}
 use Rattle.globe.specs.declared.Length.{Length}
 use Rattle.globe.specs.declared.Length.the-variants as L
 use Rattle.globe.specs.declared.LengthOut.{LengthOut}
+use Rattle.globe.specs.declared.Direction.{Direction}
+use Rattle.globe.specs.declared.Direction.the-variants as D
+use Rattle.globe.specs.declared.DirectionOut.{DirectionOut}
 
 abbrev pub sinePaper : Sine → SineOut
 sinePaper (S.Value v) = record { refusal = 0; value = v }
@@ -29,3 +32,7 @@ pointPaper (Q.Refused n) = record { refusal = n; latitude = pos 0; longitude = p
 abbrev pub lengthPaper : Length → LengthOut
 lengthPaper (L.Millimetres n) = record { refusal = 0; millimetres = n }
 lengthPaper (L.Refused n) = record { refusal = n; millimetres = 0 }
+
+abbrev pub directionPaper : Direction → DirectionOut
+directionPaper (D.Ticks n) = record { refusal = 0; ticks = n }
+directionPaper (D.Refused n) = record { refusal = n; ticks = 0 }

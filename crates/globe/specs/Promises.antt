@@ -17,7 +17,7 @@ use Rattle.signed.specs.Sides.{quot-neg}
 use Rattle.signed.specs.Sign.{signAs}
 use Rattle.sines.specs.Table.{entry}
 use Rattle.sines.specs.Rules.{growth, last}
-use Rattle.sines.specs.Sine.{quarter, longSine, shortening, shortUnit, shortSine}
+use Rattle.sines.specs.Sine.{quarter, shortening, shortUnit, shortSine}
 use Rattle.sines.specs.SineLaws.{between, a-step, in-row, longSine-zero, longSine-quarter}
 use Rattle.sines.specs.Back.{greatestAngle}
 use Rattle.sines.specs.BackLaws.{greatestAngle-meets}
@@ -154,14 +154,9 @@ mirror a =
     by-test (isAngle a) (λ t. angle-mirror a t ∙ sym t)
     (λ f. by-test (isAngle (negℤ a)) (λ t. clash (rw (negℤ-negℤ a) at (angle-mirror (negℤ a) t)) f) (λ g. g ∙ sym f))
 
-sine-mirror : (a : ℤ) → signedLongSine (negℤ a) ≡ negℤ (signedLongSine a)
-sine-mirror (pos zero) = rw longSine-zero
-sine-mirror (pos (suc n)) = refl
-sine-mirror (negsuc n) = sym (negℤ-negℤ (pos (longSine (suc n))))
-
 pub long-odd : (a : ℤ) → sinePaper (longSineOf (negℤ a)) .value ≡ negℤ (sinePaper (longSineOf a) .value)
 long-odd a =
-    by-test (isAngle a) (λ h. rw (long-is a h, long-is (negℤ a) (mirror a ∙ h), folded-mirror a h) (sine-mirror (folded a)))
+    by-test (isAngle a) (λ h. rw (long-is a h, long-is (negℤ a) (mirror a ∙ h), folded-mirror a h) (A.sine-mirror (folded a)))
     (λ h. rw (long-refused a h, long-refused (negℤ a) (mirror a ∙ h)))
 
 of-long : (a : ℤ) → sinePaper (shortSineOf a) .value ≡ quotZ (sinePaper (longSineOf a) .value) (pos shortening)

@@ -5,7 +5,7 @@ ghost use Prim.Native.Nat.{_*_, _/_, _≤_};
 ghost use Rattle.sines.specs.Table.{sines};
 ghost use Rattle.sines.specs.Sine.{quarter, shortUnit};
 ghost use Rattle.ticks.specs.Ticks.{isLatitude, isLongitude};
-ghost use Rattle.globe.specs.Leg.{halfNorth, halfEast, chord, lengthOf, legLength, legOf};
+ghost use Rattle.globe.specs.Leg.{halfNorth, halfEast, chord, lengthOf, legLength, endsRefusal, legOf};
 use crate::DEGREE;
 use crate::DEGREE_LENGTH;
 use crate::Length;
@@ -94,6 +94,16 @@ pub(crate) fn leg_length(
     length_of(t, chord_of(t, m, p, q))
 }
 
+// What refuses the ends of a leg, 0 where nothing does.
+pub(crate) fn ends_refusal(latitude: i32, longitude: i32, latitude2: i32, longitude2: i32) -> u32
+    ensures { λ r. ⌜ r ≡ endsRefusal latitude longitude latitude2 longitude2 ⌝ }
+{
+    first_of(
+        point_refusal(latitude, longitude),
+        point_refusal(latitude2, longitude2),
+    )
+}
+
 // The length of a leg.
 pub(crate) fn leg(
     t: &Entries,
@@ -105,10 +115,7 @@ pub(crate) fn leg(
     requires { ⌜ now t ≡ sines ⌝ }
     ensures { λ r. ⌜ r ≡ legOf latitude longitude latitude2 longitude2 ⌝ }
 {
-    let refusal = first_of(
-        point_refusal(latitude, longitude),
-        point_refusal(latitude2, longitude2),
-    );
+    let refusal = ends_refusal(latitude, longitude, latitude2, longitude2);
     if refusal != 0 {
         return Length::Refused(refusal);
     }

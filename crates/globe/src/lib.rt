@@ -1,4 +1,4 @@
-// The globe: sines of an angle, two sheets there and back, and lengths. Every answer is a value or a refusal's number.
+// The globe: sines of an angle, two sheets there and back, lengths and courses. Every answer is a value or a refusal's number.
 // Each function makes the table of sines first of all and lends it to the work: nothing returns before it is made, since the compiled
 // code can go wrong where a function returns before it makes a large local (docs/DECISIONS.md, "The table is made first").
 ghost use mathlib.Core.Path.{_≡_};
@@ -6,13 +6,16 @@ ghost use Rattle.globe.specs.Angle.{longSineOf, shortSineOf};
 ghost use Rattle.globe.specs.Sheet.{cylindricalOf, sinusoidalOf, cylindricalBackOf, sinusoidalBackOf};
 ghost use Rattle.globe.specs.Leg.{legOf};
 ghost use Rattle.globe.specs.Measure.{measureOf};
+ghost use Rattle.globe.specs.Course.{courseOf};
 
 mod buffer;
+mod courses;
 mod legs;
 mod lookup;
 mod root;
 mod search;
 mod sheet;
+mod slope;
 
 use sines::table_of_sines;
 
@@ -46,6 +49,12 @@ pub enum Length {
     Refused(u32),
 }
 
+// A course in ticks east of north, from 0 up to but not including a full turn: 32 bits hold it only without a sign.
+pub enum Direction {
+    Ticks(u32),
+    Refused(u32),
+}
+
 // Each answer in the paper's own numbers: the refusal, 0 where there is none, and the values, 0 beside a refusal. This is what goes out to C.
 #[repr(C)]
 pub struct SineOut {
@@ -71,6 +80,12 @@ pub struct PointOut {
 pub struct LengthOut {
     pub refusal: u32,
     pub millimetres: u64,
+}
+
+#[repr(C)]
+pub struct DirectionOut {
+    pub refusal: u32,
+    pub ticks: u32,
 }
 
 // 10^13 times the sine of an angle from -180 to 180 degrees.
@@ -127,6 +142,14 @@ pub fn leg(latitude: i32, longitude: i32, latitude2: i32, longitude2: i32) -> Le
 {
     let t = table_of_sines();
     legs::leg(&t, latitude, longitude, latitude2, longitude2)
+}
+
+// The course at which a leg starts.
+pub fn course(latitude: i32, longitude: i32, latitude2: i32, longitude2: i32) -> Direction
+    ensures { λ r. ⌜ r ≡ courseOf latitude longitude latitude2 longitude2 ⌝ }
+{
+    let t = table_of_sines();
+    courses::course(&t, latitude, longitude, latitude2, longitude2)
 }
 
 // The length of a whole point buffer, the leg into a point whose third number is 1 not counted.

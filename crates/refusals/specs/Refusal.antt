@@ -72,6 +72,10 @@ TARGET = 16
 abbrev pub BUFFER : ℕ
 BUFFER = 17
 
+-- "18 when N and D are both zero"
+abbrev pub COURSE : ℕ
+COURSE = 18
+
 -- the refusal of a line is none of these: 0, which is no refusal, and the two of a text that say line 0
 abbrev pub ofLine : ℕ → Bool
 ofLine n = not (eqb n 0) && (not (eqb n TEXT) && not (eqb n ROOM))

@@ -36,6 +36,8 @@ pub const TARGET: u32 = 16;
 
 pub const BUFFER: u32 = 17;
 
+pub const COURSE: u32 = 18;
+
 // The first of two refusals.
 pub fn first_of(a: u32, b: u32) -> u32
     ensures { λ r. ⌜ r ≡ firstOf a b ⌝ }

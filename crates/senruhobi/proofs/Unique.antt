@@ -28,6 +28,9 @@ senruhobi-sinusoidal-back = answers (λ κs a v w. refl)
 pub senruhobi-leg : One senruhobi.senruhobi_leg.ended senruhobi.senruhobi_leg.Reads.Asked senruhobi.senruhobi_leg.Reads.Learnt
 senruhobi-leg = answers (λ κs a v w. refl)
 
+pub senruhobi-course : One senruhobi.senruhobi_course.ended senruhobi.senruhobi_course.Reads.Asked senruhobi.senruhobi_course.Reads.Learnt
+senruhobi-course = answers (λ κs a v w. refl)
+
 pub senruhobi-measure : One senruhobi.senruhobi_measure.ended senruhobi.senruhobi_measure.Reads.Asked senruhobi.senruhobi_measure.Reads.Learnt
 senruhobi-measure = answers (λ κs a v w. refl)
 

@@ -2,11 +2,12 @@
 // field is 0, but for the line of a text and the pen of a step, which is the one that came in. include/senruhobi.h declares the same for C.
 ghost use mathlib.Core.Path.{_≡_};
 ghost use lib.ListN.{length};
-ghost use Rattle.globe.specs.Paper.{sinePaper, placePaper, pointPaper, lengthPaper};
+ghost use Rattle.globe.specs.Paper.{sinePaper, placePaper, pointPaper, lengthPaper, directionPaper};
 ghost use Rattle.globe.specs.Angle.{longSineOf, shortSineOf};
 ghost use Rattle.globe.specs.Sheet.{cylindricalOf, sinusoidalOf, cylindricalBackOf, sinusoidalBackOf};
 ghost use Rattle.globe.specs.Leg.{legOf};
 ghost use Rattle.globe.specs.Measure.{measureOf};
+ghost use Rattle.globe.specs.Course.{courseOf};
 ghost use Rattle.route.specs.Paper.{readingPaper};
 ghost use Rattle.route.specs.Route.{readingOf, bufferOf};
 ghost use Rattle.writer.specs.Paper.{answer, left, targetOf, markOf};
@@ -14,6 +15,7 @@ ghost use Rattle.pen.specs.Paper.{stepped};
 
 mod out;
 
+use globe::DirectionOut;
 use globe::LengthOut;
 use globe::PlaceOut;
 use globe::PointOut;
@@ -78,6 +80,18 @@ pub extern "C" fn senruhobi_leg(
     ensures { λ r. ⌜ r ≡ lengthPaper (legOf latitude1 longitude1 latitude2 longitude2) ⌝ }
 {
     out::length(globe::leg(latitude1, longitude1, latitude2, longitude2))
+}
+
+#[no_mangle]
+pub extern "C" fn senruhobi_course(
+    latitude1: i32,
+    longitude1: i32,
+    latitude2: i32,
+    longitude2: i32,
+) -> DirectionOut
+    ensures { λ r. ⌜ r ≡ directionPaper (courseOf latitude1 longitude1 latitude2 longitude2) ⌝ }
+{
+    out::direction(globe::course(latitude1, longitude1, latitude2, longitude2))
 }
 
 // A slice is a pointer and a count for C.

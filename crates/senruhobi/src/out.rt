@@ -1,10 +1,12 @@
 // Each answer as the struct that goes out: the paper's number and values, zeros beside a refusal.
 ghost use mathlib.Core.Path.{_≡_};
-ghost use Rattle.globe.specs.Paper.{sinePaper, placePaper, pointPaper, lengthPaper};
+ghost use Rattle.globe.specs.Paper.{sinePaper, placePaper, pointPaper, lengthPaper, directionPaper};
 ghost use Rattle.route.specs.declared.Reading.the-variants.{Route};
 ghost use Rattle.route.specs.Paper.{readingPaper};
 ghost use Rattle.numerals.specs.Paper.{writingPaper};
 ghost use Rattle.pen.specs.Paper.{penPaper, drawnPaper, stepPaper};
+use globe::Direction;
+use globe::DirectionOut;
 use globe::Length;
 use globe::LengthOut;
 use globe::Place;
@@ -75,6 +77,15 @@ pub(crate) fn length(l: Length) -> LengthOut
             refusal,
             millimetres: 0,
         },
+    }
+}
+
+pub(crate) fn direction(d: Direction) -> DirectionOut
+    ensures { λ r. ⌜ r ≡ directionPaper d ⌝ }
+{
+    match d {
+        Direction::Ticks(ticks) => DirectionOut { refusal: 0, ticks },
+        Direction::Refused(refusal) => DirectionOut { refusal, ticks: 0 },
     }
 }
 

@@ -61,6 +61,9 @@ exact-fits w {x} k f =
     (omega (arith, mul-above q k, u, div-mul-le-self (above x) k, fits-above w x f))
     (omega (arith, mul-below q k, d, div-mul-le-self (below x) k, fits-below w x f))
 
+pub small-fits : (w : Width) (z : ℤ) → natAbs z < 2 ^ hbits w → SFits w z
+small-fits w z h = let s = size-sides z in fits-of w z (omega arith) (omega arith)
+
 -- ---- casts to an unsigned type, and to another width
 
 pub nonneg : (z : ℤ) → below z ≡ 0 → T (nonNeg z)

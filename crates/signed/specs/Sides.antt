@@ -7,7 +7,7 @@ use Prim.Native.Nat.{ℕ, zero, suc, _+_, _-_, _*_, _/_, _≤_, _<_, min}
 use native.Mathlib.Nat.{zero-mul, zero-div, mul-div-cancel}
 use native.Mathlib.Omega.{arith}
 use lib.Dec.{ltb}
-use lib.IntN.{ℤ, pos, negsuc, negℤ, negℤ-negℤ, natAbs, subℕ, _+ℤ_, _-ℤ_, _*ℤ_, +ℤ-idl}
+use lib.IntN.{ℤ, pos, negsuc, negℤ, negℤ-negℤ, natAbs, subℕ, _+ℤ_, _-ℤ_, _*ℤ_, +ℤ-idl, *ℤ-negsuc}
 use lib.Signed.{quotZ}
 use borrow.Author.Tests.{ltb-true, ltb-false}
 
@@ -110,3 +110,25 @@ pub quot-neg : (z : ℤ) (k : ℕ) → quotZ (negℤ z) (pos k) ≡ negℤ (quot
 quot-neg (pos zero) k = rw zero-div
 quot-neg (pos (suc n)) k = refl
 quot-neg (negsuc n) k = sym (negℤ-negℤ (pos (suc n / k)))
+
+pub neg-mul : (a b : ℤ) → negℤ a *ℤ b ≡ negℤ (a *ℤ b)
+neg-mul a (pos k) = mul-neg a k
+neg-mul a (negsuc k) = *ℤ-negsuc (negℤ a) k ∙ ap negℤ (mul-neg a (suc k) ∙ sym (*ℤ-negsuc a k))
+
+-- ---- sizes
+
+pub size-neg : (z : ℤ) → natAbs (negℤ z) ≡ natAbs z
+size-neg z = omega (arith, size-sides z, size-sides (negℤ z), neg-above z, neg-below z)
+
+pub size-mul : (a b : ℤ) → natAbs (a *ℤ b) ≡ natAbs a * natAbs b
+size-mul (pos a) (pos b) = refl
+size-mul (pos a) (negsuc b) = size-neg (pos (a * suc b))
+size-mul (negsuc a) (pos b) = size-neg (pos (suc a * b))
+size-mul (negsuc a) (negsuc b) = refl
+
+pub size-quot : (a : ℤ) (k : ℕ) → natAbs (quotZ a (pos k)) ≡ natAbs a / k
+size-quot (pos a) k = refl
+size-quot (negsuc a) k = size-neg (pos (suc a / k))
+
+pub size-sub : (a b : ℤ) → natAbs (a -ℤ b) ≤ natAbs a + natAbs b
+size-sub a b = omega (arith, size-sides a, size-sides b, size-sides (a -ℤ b), sub-sides a b, one-side (a -ℤ b))

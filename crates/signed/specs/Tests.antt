@@ -1,15 +1,15 @@
 -- The tests on signed numbers, each from and to a fact about the sides that `omega` reads.
 -- Assumes nothing.
-use mathlib.Core.Path.{_≡_, refl, sym, ap, subst}
+use mathlib.Core.Path.{_≡_, refl, sym, ap, subst, _∙_}
 use mathlib.Core.Bool.{Bool, true, false, _&&_}
 use Prim.Native.Nat.{_+_, _≤_, _<_}
 use native.Mathlib.Omega.{arith}
-use lib.Dec.{T}
-use lib.IntN.{ℤ, pos, negsuc}
+use lib.Dec.{T, eqb}
+use lib.IntN.{ℤ, pos, negsuc, natAbs}
 use lib.Signed.{ltZ, leZ}
-use borrow.Author.Tests.{ltb-true, ltb-false, leb-true, leb-false, lt-ltb, le-leb}
-use Rattle.signed.specs.Sides.{above, below, same}
-use Rattle.refusals.specs.Tests.{by-test, and-true, true-and}
+use borrow.Author.Tests.{ltb-true, ltb-false, leb-true, leb-false, lt-ltb, le-leb, eqb-true, eq-eqb}
+use Rattle.signed.specs.Sides.{above, below, same, size-sides}
+use Rattle.refusals.specs.Tests.{by-test, clash, and-true, true-and}
 
 pub ltZ-true : (a b : ℤ) → ltZ a b ≡ true → above a + below b < above b + below a
 ltZ-true (pos a) (pos b) e = omega (arith, ltb-true a b e)
@@ -62,3 +62,9 @@ eq-eqZ a b e = true-and (le-leZ a b (omega (arith, ap above e, ap below e))) (le
 
 pub ne-eqZ : (a b : ℤ) → (a ≡ b → ⊥) → eqZ a b ≡ false
 ne-eqZ a b f = by-test (eqZ a b) (λ e. absurd (f (eqZ-true a b e))) (λ e. e)
+
+-- a number is 0 where its size is
+pub size-test : (z : ℤ) → eqb (natAbs z) 0 ≡ eqZ z (pos 0)
+size-test z =
+    by-test (eqb (natAbs z) 0) (λ e. e ∙ sym (eq-eqZ z (pos 0) (same z (pos 0) (omega (arith, size-sides z, eqb-true (natAbs z) 0 e)))))
+    (λ e. e ∙ sym (ne-eqZ z (pos 0) (λ p. clash (eq-eqb (natAbs z) 0 (ap natAbs p)) e)))

@@ -5,8 +5,9 @@ use mathlib.Core.Path.{_≡_, refl, sym, _∙_}
 use Prim.Native.Nat.{ℕ, _+_, _*_, _≤_, _<_}
 use native.Mathlib.Omega.{arith}
 use Rattle.sines.specs.Table.{sines, sinesFrom, rounded, sineOfStep, twiceCosine, entry}
+use Rattle.sines.specs.Rules.{last}
 use Rattle.sines.specs.Sine.{quarter, sineBy, longSine, shortSine}
-use Rattle.sines.specs.SineLaws.{between, a-step, between-start, longSine-tick}
+use Rattle.sines.specs.SineLaws.{between, a-step, between-start, in-row, longSine-tick}
 use Rattle.sines.specs.Back.{greatestAngle}
 use Rattle.sines.specs.BackLaws.{last-angle-top, greatest-angle}
 
@@ -22,12 +23,30 @@ pub entry-1500 : entry 1_500 ≡ 5_000_000_000_000
 unfolding entry sines sinesFrom rounded sineOfStep twiceCosine
 entry-1500 = refl
 
+-- and others that figures rest on
+entry-3000 : entry 3_000 ≡ 8_660_254_037_844
+unfolding entry sines sinesFrom rounded sineOfStep twiceCosine
+entry-3000 = refl
+
+entry-4499 : entry 4_499 ≡ 9_999_999_390_765
+unfolding entry sines sinesFrom rounded sineOfStep twiceCosine
+entry-4499 = refl
+
 -- ---- sines
 
--- of 30 degrees
+-- of 30 and of 60 degrees
 pub long-30 : longSine 300_000_000 ≡ 5_000_000_000_000
 unfolding sineBy between
 long-30 = between-start a-step 1_500 ∙ entry-1500
+
+pub long-60 : longSine 600_000_000 ≡ 8_660_254_037_844
+unfolding sineBy between
+long-60 = between-start a-step 3_000 ∙ entry-3000
+
+-- of a tick less than 90 degrees
+pub long-before-90 : longSine 899_999_999 ≡ 9_999_999_999_996
+unfolding between
+long-before-90 = in-row a-step 4_499 {f = 199_999} (omega arith) ∙ rw (entry-4499, last)
 
 -- of 2 ticks
 long-2 : longSine 2 ≡ 34_906

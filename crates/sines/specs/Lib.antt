@@ -4,6 +4,10 @@ pub mod Sine
 pub mod SineLaws
 pub mod Greatest
 pub mod GreatestLaws
+pub mod Halving
 pub mod Back
 pub mod BackLaws
+pub mod Slope
+pub mod SlopeLaws
+pub mod SlopeRows
 pub mod Figures

@@ -1,8 +1,9 @@
 -- What the ranges, the turn, the fold and the refusals of a point say, as facts that `omega` reads.
 -- Assumes nothing.
 use mathlib.Core.Path.{_≡_, refl, sym, _∙_}
+use mathlib.Core.Logic.{_⊎_, inl, inr}
 use mathlib.Core.Bool.{Bool, true, false, _&&_}
-use Prim.Native.Nat.{ℕ, _+_, _-_, _*_, _≤_, _<_, min}
+use Prim.Native.Nat.{ℕ, zero, suc, _+_, _-_, _*_, _≤_, _<_, min}
 use native.Mathlib.Nat.{mul-le-mul}
 use native.Mathlib.Omega.{arith}
 use lib.IntN.{ℤ, pos, negℤ, natAbs, _+ℤ_, _-ℤ_, _*ℤ_}
@@ -160,6 +161,53 @@ unfolding offsetOf
 no-offset m q =
     let f = longitude (offsetOf m m) (is-longitude (offsetOf m m) (offset-longitude m m q q)) in
     same (offsetOf m m) (pos 0) (omega (arith, sub-sides m m, turned-how (m -ℤ m) .apart, turned-how (m -ℤ m) .few))
+
+-- two offsets that add up to whole turns, k - 2 of them: they mirror each other, or both are half a turn
+by-turns : (a b : ℤ) (k : ℕ) → Longitude a → Longitude b → above b + above a + 2 * fullTurn ≡ below b + below a + k * fullTurn
+    → (b ≡ negℤ a) ⊎ ((a ≡ negℤ (pos half)) × (b ≡ negℤ (pos half)))
+by-turns a b zero f g e = absurd (omega (arith, one-side a, one-side b))
+by-turns a b (suc zero) f g e =
+    let o = one-side a in
+    let o′ = one-side b in
+    inr (same a (negℤ (pos half)) (omega arith), same b (negℤ (pos half)) (omega arith))
+by-turns a b (suc (suc zero)) f g e = inl (same b (negℤ a) (omega (arith, neg-above a, neg-below a)))
+by-turns a b (suc (suc (suc k))) f g e = absurd (omega (arith, one-side a, one-side b))
+
+-- longitudes and meridians may be counted from anywhere
+pub offset-from : (lon meridian from : ℤ) → isLongitude lon ≡ true → isLongitude meridian ≡ true → isLongitude from ≡ true
+    → offsetOf (offsetOf lon from) (offsetOf meridian from) ≡ offsetOf lon meridian
+unfolding offsetOf
+offset-from lon meridian from p q r =
+    let x = offsetOf lon from in
+    let y = offsetOf meridian from in
+    let f = offset-longitude lon from p r in
+    let g = offset-longitude meridian from q r in
+    let h = offset-longitude x y (is-longitude x f) (is-longitude y g) in
+    let k = offset-longitude lon meridian p q in
+    let s = turned-how (lon -ℤ from) in
+    let t = turned-how (meridian -ℤ from) in
+    let u = turned-how (x -ℤ y) in
+    let v = turned-how (lon -ℤ meridian) in
+    same (offsetOf x y) (offsetOf lon meridian)
+    (omega (arith, sub-sides lon from, sub-sides meridian from, sub-sides x y, sub-sides lon meridian, s .apart, s .few, t .apart, t .few, u .apart, u .few, v .apart, v .few))
+
+-- mirrored longitudes have the mirrored offset, or half a turn, which comes out to the west either way
+module _ (lon meridian : ℤ) (p : isLongitude lon ≡ true) (q : isLongitude meridian ≡ true) (p′ : isLongitude (negℤ lon) ≡ true) (q′ : isLongitude (negℤ meridian) ≡ true) where
+  abbrev there : ℤ
+  there = offsetOf lon meridian
+
+  abbrev mirrored : ℤ
+  mirrored = offsetOf (negℤ lon) (negℤ meridian)
+
+  -- they add up to k - 2 turns
+  pub offset-mirror : (mirrored ≡ negℤ there) ⊎ ((there ≡ negℤ (pos half)) × (mirrored ≡ negℤ (pos half)))
+  unfolding offsetOf
+  offset-mirror =
+      let t = turned-how (lon -ℤ meridian) in
+      let u = turned-how (negℤ lon -ℤ negℤ meridian) in
+      let e : above mirrored + above there + 2 * fullTurn ≡ below mirrored + below there + (t .k + u .k) * fullTurn
+      = omega (arith, t .apart, u .apart, sub-sides lon meridian, sub-sides (negℤ lon) (negℤ meridian), neg-above lon, neg-below lon, neg-above meridian, neg-below meridian) in
+      by-turns there mirrored (t .k + u .k) (offset-longitude lon meridian p q) (offset-longitude (negℤ lon) (negℤ meridian) p′ q′) e
 
 -- offset × width fits 64 bits
 pub product-fits : (d : ℤ) (w : ℕ) → Longitude d → w ≤ shortUnit → SFits w64 (d *ℤ pos w)

@@ -8,8 +8,8 @@ use mir.Syntax.{w64}
 use mir.Val.{toZ}
 use mir.Facts.{toZ-pos}
 use Rattle.libc.specs.Io.{Moved}
-use Rattle.routereport.proofs.read_all.Statement.{statement}
-use Rattle.routereport.proofs.read_all.Tie as tie
+use Rattle.streams.proofs.read_all.Statement.{statement}
+use Rattle.streams.proofs.read_all.Tie as tie
 
 -- a number of bytes, cast to the signed answer
 counted : {k n : ℕ} → k ≤ n → n < 2 ^ 63 → Moved n (toZ w64 k)
