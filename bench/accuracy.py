@@ -1,6 +1,6 @@
 #!/usr/bin/env python3
 """How far the document's length of a leg and the course at which it starts lie from those of the true great circle on its sphere, over random legs
-of several lengths: prints the two tables of docs/ACCURACY.md.
+of several lengths, and what the legs of trails in short steps add up to: prints the tables of docs/ACCURACY.md.
 
 The rules are the model's of tests/, to which the tests hold the compiled code. The truth is that of the same points, in whole ticks, worked
 out to more than 50 digits by the form with the arc tangent of two arguments, which loses nothing at any length.
@@ -19,9 +19,12 @@ from sine import PI, SCALE
 SEED = 1395
 LEGS = 2_000  # of each length
 RADIUS = 6_371_000  # metres
+TICKS = [1, 2, 10]
 METRES = [1, 10, 100, 1_000, 10_000, 100_000, 1_000_000, 5_000_000, 15_000_000]
 HIGHEST = math.sin(math.radians(85))  # near a pole the rule is another story: its cosines have few digits there
 NEAR = 10_000  # metres from a pole, or from the antipode
+TRAIL_LATITUDE = 46 * model.DEGREE
+STRIDES = [3, 10, 100, 1_000]  # the most ticks of a trail's random step, north or south and east or west
 
 getcontext().prec = 60
 TICK = Decimal(PI) / SCALE / model.HALF_TURN  # in radians
@@ -73,10 +76,23 @@ def some_leg(latitude, metres):
     return ticks(latitude), longitude_ticks(longitude), ticks(latitude2), longitude_ticks(longitude2)
 
 
-def tick_leg(latitude):
-    """A leg to the next tick north, east, south or west."""
+def tick_leg(latitude, count):
+    """A leg so many ticks north, east, south or west."""
     (north, east), longitude = random.choice([(1, 0), (0, 1), (-1, 0), (0, -1)]), longitude_ticks(random.uniform(-math.pi, math.pi))
-    return ticks(latitude), longitude, ticks(latitude) + north, model.turned(longitude + east)
+    return ticks(latitude), longitude, ticks(latitude) + count * north, model.turned(longitude + count * east)
+
+
+def trail(latitude, steps):
+    """The legs of a trail whose steps are in ticks north and east."""
+    legs, longitude = [], 0
+    for north, east in steps:
+        legs.append((latitude, longitude, latitude + north, longitude + east))
+        latitude, longitude = legs[-1][2:]
+    return legs
+
+
+def either_way(most):
+    return random.choice([1, -1]) * random.randint(1, most)
 
 
 def ticks(radians):
@@ -102,29 +118,62 @@ def course_row(legs, truths):
     return f'{max(sizes):.7f} | {sum(sizes) / len(sizes):.7f} | {courses.count(None)}'
 
 
+def trail_row(legs, truths):
+    """The true length, the sum of the answers, and what part of the one the other is."""
+    true, answered = sum(length for length, _ in truths), sum(model.leg(*leg) for leg in legs)
+    return f'{true:,.1f} | {answered:,} | {100 * answered / true:.1f} %'
+
+
 def about(metres):
     return metres * random.uniform(0.9, 1.1)
 
 
+def ticks_said(count):
+    return '1 tick' if count == 1 else f'{count} ticks'
+
+
 def some_legs():
-    """Of each length, with its name."""
+    """Of each length from a metre on, with its name."""
     for metres in METRES:
         name = f'{metres} m' if metres < 1000 else f'{metres // 1000:,} km'
         yield name, [some_leg(some_latitude(), about(metres)) for _ in range(LEGS)]
     yield '1 km, near a pole', [some_leg(polar_latitude(), about(1000)) for _ in range(LEGS)]
     yield 'nearly to the antipode', [some_leg(some_latitude(), math.pi * RADIUS - random.uniform(0, NEAR)) for _ in range(LEGS)]
-    yield '1 tick', [tick_leg(some_latitude()) for _ in range(LEGS)]
 
 
-def print_table(head, row):
-    print(f'\n| a leg of about | {head} |')
+def short_legs():
+    for count in TICKS:
+        yield ticks_said(count), [tick_leg(some_latitude(), count) for _ in range(LEGS)]
+
+
+def some_trails():
+    """By what leads from each point to the next."""
+    steps = model.MOST_POINTS - 1
+    yield '1 tick north', trail(TRAIL_LATITUDE, steps * [(1, 0)])
+    yield '1 tick east, on the equator', trail(0, steps * [(0, 1)])
+    for count in TICKS:
+        yield f'{ticks_said(count)} east', trail(TRAIL_LATITUDE, steps * [(0, count)])
+    for most in STRIDES:
+        some_steps = [(either_way(most), either_way(most)) for _ in range(steps)]
+        yield f'1 to {most:,} ticks north or south and 1 to {most:,} east or west', trail(TRAIL_LATITUDE, some_steps)
+
+
+def with_truths(named):
+    return [(name, legs, [true_leg(*leg) for leg in legs]) for name, legs in named]
+
+
+def print_table(head, rows, row):
+    print(f'\n| {head} |')
     print('|---|---|---|---|')
     for name, legs, truths in rows:
         print(f'| {name} | {row(legs, truths)} |')
 
 
 random.seed(SEED)
+longer, short, trails = with_truths(some_legs()), with_truths(short_legs()), with_truths(some_trails())
 print(f'Seed {SEED}, {LEGS:,} legs a line:')
-rows = [(name, legs, [true_leg(*leg) for leg in legs]) for name, legs in some_legs()]
-print_table('largest difference, mm | mean, mm | largest, relative', length_row)
-print_table('largest difference, degrees | mean, degrees | without a course', course_row)
+print_table('a leg of about | largest difference, mm | mean, mm | largest, relative', short + longer, length_row)
+# below a metre courses are rough: one line says so
+print_table('a leg of about | largest difference, degrees | mean, degrees | without a course', longer + short[:1], course_row)
+print(f'\nTrails of {model.MOST_POINTS:,} points at {TRAIL_LATITUDE // model.DEGREE}° N, and one on the equator:')
+print_table('from each point to the next | true length, mm | sum of the legs, mm | of the true length', trails, trail_row)

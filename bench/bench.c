@@ -22,14 +22,15 @@ enum { MONOTONIC = 1 }; /* clock_gettime's number for the clock that nobody sets
 
 /* Inputs */
 
-/* In ticks for a door and its twin, in degrees for the usual way. The fields have the same names, so that the calls read alike. */
+/* In ticks for a door and its twin, but for the angle, from 0 to 90 degrees, which is in half ticks; in degrees for the usual way. The fields
+   have the same names, so that the calls read alike. */
 typedef struct {
-    int32_t latitude, longitude, meridian, latitude2, longitude2, third, pen;
+    int32_t latitude, longitude, meridian, latitude2, longitude2, angle, third, pen;
     senruhobi_place cylindrical, sinusoidal;
 } input;
 
 typedef struct {
-    double latitude, longitude, meridian, latitude2, longitude2;
+    double latitude, longitude, meridian, latitude2, longitude2, angle;
     int32_t third, pen;
     usual_place cylindrical, sinusoidal;
 } usual_input;
@@ -86,6 +87,7 @@ static void make_input(input *t, usual_input *d)
     t->meridian = some_longitude(), d->meridian = in_degrees(t->meridian);
     t->latitude2 = some_latitude(), d->latitude2 = in_degrees(t->latitude2);
     t->longitude2 = some_longitude(), d->longitude2 = in_degrees(t->longitude2);
+    t->angle = between(0, 2 * QUARTER), d->angle = in_degrees(t->angle) / 2;
     t->third = d->third = between(0, 1);
     t->pen = d->pen = between(0, 1);
     t->cylindrical = twin_cylindrical(t->latitude, t->longitude, t->meridian);
@@ -94,12 +96,12 @@ static void make_input(input *t, usual_input *d)
     d->sinusoidal = usual_sinusoidal(d->latitude, d->longitude, d->meridian);
 }
 
-/* Whatever is asked of a refused input, its latitude, its longitude or its meridian forbids. */
+/* Whatever is asked of a refused input, its latitude, its longitude, its meridian or its angle forbids. */
 static void make_inputs(void)
 {
     for (int i = 0; i < CALLS; i++) {
         make_input(&accepted[i], &degrees[i]);
-        refused[i] = (input){.latitude = QUARTER + 1, .longitude = HALF_TURN + 1, .meridian = HALF_TURN};
+        refused[i] = (input){.latitude = QUARTER + 1, .longitude = HALF_TURN + 1, .meridian = HALF_TURN, .angle = -1};
     }
 }
 
@@ -185,6 +187,7 @@ static uint64_t bits(double x)
 #define STEP pen_step(in->pen, -EDGE, EDGE, -EDGE, EDGE, DIVISOR, in->meridian, in->latitude, in->longitude, in->third)
 
 EXACT(long_sine, senruhobi_sine, long_sine(in->longitude), a.refusal + (uint64_t)a.value)
+EXACT(long_sine_half, senruhobi_sine, long_sine_half(in->angle), a.refusal + (uint64_t)a.value)
 EXACT(short_sine, senruhobi_sine, short_sine(in->longitude), a.refusal + (uint64_t)a.value)
 EXACT(cylindrical, senruhobi_place, cylindrical(in->latitude, in->longitude, in->meridian), PLACE)
 EXACT(sinusoidal, senruhobi_place, sinusoidal(in->latitude, in->longitude, in->meridian), PLACE)
@@ -195,6 +198,7 @@ EXACT(course, senruhobi_direction, course(in->latitude, in->longitude, in->latit
 EXACT(pen_step, senruhobi_step, STEP, a.refusal + a.stroke + a.pen + bits(a.x) + 3 * bits(a.y))
 
 USUAL(long_sine, usual_number, sine(in->longitude), a.refused + a.value)
+USUAL(long_sine_half, usual_number, quarter_sine(in->angle), a.refused + a.value)
 USUAL(short_sine, usual_number, sine(in->longitude), a.refused + a.value)
 USUAL(cylindrical, usual_place, cylindrical(in->latitude, in->longitude, in->meridian), a.refused + a.x + a.y)
 USUAL(sinusoidal, usual_place, sinusoidal(in->latitude, in->longitude, in->meridian), a.refused + a.x + a.y)
@@ -327,12 +331,13 @@ typedef struct {
     }
 
 enum {
-    LONG_SINE, SHORT_SINE, CYLINDRICAL, SINUSOIDAL, CYLINDRICAL_BACK, SINUSOIDAL_BACK, LEG, COURSE, PEN_STEP,
+    LONG_SINE, LONG_SINE_HALF, SHORT_SINE, CYLINDRICAL, SINUSOIDAL, CYLINDRICAL_BACK, SINUSOIDAL_BACK, LEG, COURSE, PEN_STEP,
     MEASURE_NEAR, MEASURE_FAR, READ_FEW, NEAR_JOINED, NEAR_PARTED, FAR_JOINED, FAR_PARTED, WRITE_FEW, WRITE_NEAR, WRITE_FAR, JOBS
 };
 
 static job jobs[JOBS] = {
     [LONG_SINE] = EACH(long_sine),
+    [LONG_SINE_HALF] = EACH(long_sine_half),
     [SHORT_SINE] = EACH(short_sine),
     [CYLINDRICAL] = EACH(cylindrical),
     [SINUSOIDAL] = EACH(sinusoidal),

@@ -12,7 +12,9 @@ enum {
     OUTPUT, TARGET, BUFFER, COURSE
 };
 
-enum { ROWS = 4500, STEP = 200000, QUARTER = 900000000, HALF_TURN = 1800000000, SHORTENING = 10000, SHORT_UNIT = 1000000000 };
+enum { ROWS = 4500, STEP = 200000, STEP_HALVES = 2 * STEP }; /* from one entry to the next, in ticks and in half ticks */
+enum { QUARTER = 900000000, HALF_TURN = 1800000000, SHORTENING = 10000, SHORT_UNIT = 1000000000 };
+enum { LEG_SHORTENING = 5000, LEG_UNIT = 2000000000 }; /* in the length rule alone */
 enum { DEGREE = 10000000, DEGREE_LENGTH = 111194927 }; /* in ticks, in millimetres */
 enum { MOST_BYTES = 60000, MOST_POINTS = SENRUHOBI_MOST_POINTS, NUMBERS = SENRUHOBI_NUMBERS, MOST_DIVISOR = 1000000 };
 enum { METRE = 1000, KILOMETRE = 1000000, MOST_TARGET = 999999000 }; /* in millimetres */
@@ -59,13 +61,18 @@ static uint32_t size(int32_t z)
     return z < 0 ? -(uint32_t)z : (uint32_t)z;
 }
 
-/* Of an angle from 0 to 90 degrees. */
-static uint64_t long_sine(uint32_t a)
+/* Of an angle from 0 to 90 degrees, in a unit of which so many make a step of the table. */
+static inline uint64_t sine_by(uint32_t step, uint32_t a)
 {
-    uint32_t k = a / STEP, f = a % STEP;
+    uint32_t k = a / step, f = a % step;
     if (k == ROWS)
         return sines[ROWS];
-    return sines[k] + f * (sines[k + 1] - sines[k]) / STEP;
+    return sines[k] + f * (sines[k + 1] - sines[k]) / step;
+}
+
+static uint64_t long_sine(uint32_t a)
+{
+    return sine_by(STEP, a);
 }
 
 static uint64_t short_sine(uint32_t a)
@@ -100,6 +107,13 @@ senruhobi_sine twin_long_sine(int32_t angle)
     if (!is_angle(angle))
         return (senruhobi_sine){.refusal = LATITUDE};
     return (senruhobi_sine){.value = long_around(angle)};
+}
+
+senruhobi_sine twin_long_sine_half(int32_t half_ticks)
+{
+    if (half_ticks < 0 || half_ticks > ROWS * STEP_HALVES)
+        return (senruhobi_sine){.refusal = LATITUDE};
+    return (senruhobi_sine){.value = (int64_t)sine_by(STEP_HALVES, (uint32_t)half_ticks)};
 }
 
 senruhobi_sine twin_short_sine(int32_t angle)
@@ -149,13 +163,13 @@ static uint32_t last_row(uint64_t y)
     return (uint32_t)(row - sines);
 }
 
-/* The last angle up to 90 degrees whose long sine is at most y. */
-static uint32_t last_angle(uint64_t y)
+/* The last angle up to 90 degrees whose long sine is at most y, in a unit of which so many make a step of the table. */
+static inline uint32_t last_angle(uint32_t step, uint64_t y)
 {
     uint32_t k = last_row(y);
     if (k == ROWS)
-        return QUARTER;
-    return k * STEP + (uint32_t)(((y - sines[k] + 1) * STEP - 1) / (sines[k + 1] - sines[k]));
+        return ROWS * step;
+    return k * step + (uint32_t)(((y - sines[k] + 1) * step - 1) / (sines[k + 1] - sines[k]));
 }
 
 static senruhobi_point nobody(void)
@@ -176,7 +190,7 @@ senruhobi_point twin_cylindrical_back(int64_t x, int64_t y, int32_t meridian)
     if (!is_longitude(meridian))
         return (senruhobi_point){.refusal = MERIDIAN};
     uint64_t sine = y < 0 ? -(uint64_t)y : (uint64_t)y;
-    uint32_t a = last_angle(sine);
+    uint32_t a = last_angle(STEP, sine);
     if (long_sine(a) != sine)
         return nobody();
     return point_at(y < 0 ? -(int32_t)a : (int32_t)a, 1, x, meridian);
@@ -211,16 +225,27 @@ static uint64_t root(uint64_t h)
     return r;
 }
 
-/* The greatest angle up to 90 degrees whose short sine is at most r. */
-static uint32_t greatest_angle(uint64_t r)
+/* The length rule's short sine of an angle in half ticks, and its short cosine. Their unit is 2 × 10^9. */
+static uint64_t leg_sine(uint32_t half_ticks)
 {
-    return r >= SHORT_UNIT ? QUARTER : last_angle(r * SHORTENING + SHORTENING - 1);
+    return sine_by(STEP_HALVES, half_ticks) / LEG_SHORTENING;
 }
 
-/* m × s / 10^9: the product reaches 10^27, so s is split at 10^9, where each part fits 64 bits. */
+static uint64_t leg_cosine(int32_t latitude)
+{
+    return long_sine(QUARTER - size(latitude)) / LEG_SHORTENING;
+}
+
+/* The greatest angle up to 90 degrees, in half ticks, whose short sine is at most r. */
+static uint32_t greatest_angle(uint64_t r)
+{
+    return last_angle(STEP_HALVES, r * LEG_SHORTENING + LEG_SHORTENING - 1);
+}
+
+/* m × s / (2 × 10^9): the product reaches 8 × 10^27, so s is split at the divisor, where each part fits 64 bits. */
 static uint64_t scaled(uint64_t m, uint64_t s)
 {
-    return m * (s / SHORT_UNIT) + m * (s % SHORT_UNIT) / SHORT_UNIT;
+    return m * (s / LEG_UNIT) + m * (s % LEG_UNIT) / LEG_UNIT;
 }
 
 static uint64_t leg_length(int32_t latitude1, int32_t longitude1, int32_t latitude2, int32_t longitude2)
@@ -228,10 +253,11 @@ static uint64_t leg_length(int32_t latitude1, int32_t longitude1, int32_t latitu
     int64_t d = (int64_t)longitude1 - longitude2;
     if (d < 0)
         d = -d;
-    uint64_t p = short_sine(size(latitude1 - latitude2) / 2);
-    uint64_t q = short_sine((uint32_t)((d <= TURN - d ? d : TURN - d) / 2));
-    uint64_t m = short_cosine(latitude1) * short_cosine(latitude2) / SHORT_UNIT;
-    uint64_t arc = 2 * (uint64_t)greatest_angle(root(p * p + scaled(m, q * q)));
+    /* the whole differences, in half ticks, are their halves, and u, in half ticks, is half the arc */
+    uint64_t p = leg_sine(size(latitude1 - latitude2));
+    uint64_t q = leg_sine((uint32_t)(d <= TURN - d ? d : TURN - d));
+    uint64_t m = leg_cosine(latitude1) * leg_cosine(latitude2) / LEG_UNIT;
+    uint64_t arc = greatest_angle(root(p * p + scaled(m, q * q)));
     return arc * DEGREE_LENGTH / DEGREE;
 }
 

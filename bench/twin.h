@@ -4,6 +4,7 @@
 #include "../include/senruhobi.h"
 
 senruhobi_sine twin_long_sine(int32_t angle);
+senruhobi_sine twin_long_sine_half(int32_t half_ticks);
 senruhobi_sine twin_short_sine(int32_t angle);
 senruhobi_place twin_cylindrical(int32_t latitude, int32_t longitude, int32_t meridian);
 senruhobi_place twin_sinusoidal(int32_t latitude, int32_t longitude, int32_t meridian);

@@ -48,6 +48,13 @@ usual_number usual_sine(double angle)
     return (usual_number){.value = sin(angle * RADIAN)};
 }
 
+usual_number usual_quarter_sine(double angle)
+{
+    if (!(0 <= angle && angle <= 90))
+        return (usual_number){.refused = 1};
+    return (usual_number){.value = sin(angle * RADIAN)};
+}
+
 usual_place usual_cylindrical(double latitude, double longitude, double meridian)
 {
     if (!is_longitude(meridian) || !is_point(latitude, longitude))

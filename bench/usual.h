@@ -11,6 +11,7 @@ typedef struct { int refused; size_t bytes; } usual_written;
 typedef struct { int refused, stroke; double x, y; int pen; } usual_step;
 
 usual_number usual_sine(double angle);
+usual_number usual_quarter_sine(double angle); /* from 0 to 90 degrees */
 usual_place usual_cylindrical(double latitude, double longitude, double meridian);
 usual_place usual_sinusoidal(double latitude, double longitude, double meridian);
 usual_point usual_cylindrical_back(double x, double y, double meridian);

@@ -4,7 +4,7 @@
  * `senruhobi_refusal`. Beside a refusal every other field is 0, but for a text's line and the pen, and no buffer is written to.
  *
  * Angles are in ticks, ten-millionths of a degree: latitude from -900000000 to 900000000, longitude and central meridian from
- * -1800000000 up to but not including 1800000000. Lengths are in millimetres.
+ * -1800000000 up to but not including 1800000000. One door takes half ticks. Lengths are in millimetres.
  *
  *     // a quarter of the equator, measured as a leg, as a point buffer and as a text
  *     #include <stdio.h>
@@ -48,7 +48,7 @@ typedef enum {
     SENRUHOBI_REFUSED_LINE = 3, /* another line has an unknown kind, the wrong number of fields, or no LF */
     SENRUHOBI_REFUSED_NUMBER = 4, /* a number breaks its rule */
     SENRUHOBI_REFUSED_MARK = 5, /* a number holds the mark that line 1 did not name */
-    SENRUHOBI_REFUSED_LATITUDE = 6, /* latitude out of range (-90 to 90 degrees, both allowed), or the angle for a sine (-180 to 180, both allowed) */
+    SENRUHOBI_REFUSED_LATITUDE = 6, /* latitude out of range (-90 to 90 degrees, both allowed), or the angle for a sine (-180 to 180, both allowed; in half ticks 0 to 90) */
     SENRUHOBI_REFUSED_LONGITUDE = 7, /* longitude out of range (-180 degrees up to but not including 180) */
     SENRUHOBI_REFUSED_ORDER = 8, /* `t` or `g` in a wrong place; a last `g` names its own line */
     SENRUHOBI_REFUSED_POINTS = 9, /* the 1,001st `p` line; more than 1,000 points in a buffer */
@@ -85,6 +85,9 @@ typedef struct { uint32_t refusal, stroke; double x, y; uint32_t pen /* 0 up, 1 
 /* 10^13 times the sine of an angle from -180 to 180 degrees, both allowed, and 10^9 times it. Refusal: 6. */
 senruhobi_sine senruhobi_long_sine(int32_t angle);
 senruhobi_sine senruhobi_short_sine(int32_t angle);
+
+/* 10^13 times the sine of an angle in half ticks, from 0 to 1800000000, which are 90 degrees, both allowed. Refusal: 6. */
+senruhobi_sine senruhobi_long_sine_half(int32_t half_ticks);
 
 /* A point's place on the Lambert cylindrical equal-area sheet, and on the sinusoidal one. Refusals: 14, 6, 7. */
 senruhobi_place senruhobi_cylindrical(int32_t latitude, int32_t longitude, int32_t meridian);

@@ -7,7 +7,7 @@ import model
 import texts
 from figures import (DOWN, GREATEST, GREATEST_64, HERE, INF, KILOMETRES, LATITUDE, LEAST, LEAST_64, LONGITUDE, NO_LATITUDES, NO_LONGITUDES,
                      NO_TARGETS, NO_THIRDS, PENS, THIRD, X, Y, YES, above, below, changed, route, step)
-from model import HALF_TURN, NUMBERS, QUARTER, STEP, turned
+from model import HALF_TURN, NUMBERS, QUARTER, QUARTER_IN_HALVES, STEP, STEP_IN_HALVES, turned
 
 LATITUDES = [LEAST, -QUARTER - 1, -QUARTER, -QUARTER + 1, -600_000_000, -1, 0, 1, STEP, QUARTER - 1, QUARTER, QUARTER + 1, GREATEST]
 LONGITUDES = [LEAST, -HALF_TURN - 1, -HALF_TURN, -HALF_TURN + 1, -1, 0, 1, HALF_TURN - 1, HALF_TURN, HALF_TURN + 1, GREATEST]
@@ -16,6 +16,15 @@ THIRDS = [0, 1, 2, -1, LEAST, GREATEST]
 DIVISORS = [1, 2, 3, 7, 1_000, 999_999, 1_000_000]
 BAD_DIVISORS = [0, 1_000_001, 2**31, 2**32 - 1]
 TOO_MUCH_ROOM = model.MOST_NUMBERS + NUMBERS
+# Legs at the edge of a division: with an m or an H beside its own each would have another length.
+EDGE_LEGS = [
+    # the product of the cosines is a multiple of 2×10^9; it is 1 below one
+    (-717_044_341, 0, -227_982_474, 1_552_084_246), (717_044_341, 0, 227_982_474, 862_127_027),
+    (392_767_434, 0, -288_356_515, 1_461_419_109), (-392_767_434, 0, -288_356_515, 1_630_968_279),
+    # H is a square, and hardly more was divided than 2×10^9 times as much; it is 1 below one, and hardly less was divided
+    (866_833_467, 0, 866_833_467, 281_148_563), (-861_324_888, 0, -861_324_888, 41_285_281), (105_358_330, 0, 105_358_330, 1_784_163_729),
+    (-64_169, 0, -64_169, 57_319_680), (8_486, 0, 8_486, 1_799_993_434), (898_816_796, 0, 898_816_796, 26_934_513),
+]
 
 
 # At the limits
@@ -27,6 +36,14 @@ def sines():
     half = {angle for near in beside | ends for angle in (near, HALF_TURN - near)}
     for sine in ('long_sine', 'short_sine'):
         yield from ((sine, angle) for angle in sorted({*LATITUDES, *LONGITUDES, *half, *(-angle for angle in half)}))
+
+
+def half_sines():
+    """The half ticks at and beside limits and entries of the table, and where the length rule's short sine changes."""
+    ends = {LEAST, -QUARTER_IN_HALVES - 1, -QUARTER_IN_HALVES, -QUARTER, *range(-9, 10), QUARTER, GREATEST,
+            *range(QUARTER_IN_HALVES - 9, QUARTER_IN_HALVES + 10), *range(QUARTER_IN_HALVES - 3_285, QUARTER_IN_HALVES - 3_280)}
+    beside = {k * STEP_IN_HALVES + off for k in (-1, 1, 2, 1499, 1500, 2250, 2999, 4499, 4501) for off in range(-3, 4)}
+    yield from (('long_sine_half', half_ticks) for half_ticks in sorted(ends | beside))
 
 
 def sheets():
@@ -54,8 +71,16 @@ def legs():
     # nearly opposite points
     for latitude, north, east in itertools.product((0, 1, 455_000_000, QUARTER - 2), range(-3, 4), range(-3, 4)):
         yield 'leg', latitude, -900_000_000, north - latitude, 900_000_000 + east
-    # the short sine of half this leg leaves 999,999,999
-    yield from (('leg', 0, 0, 0, HALF_TURN - off) for off in (1, 2, 3, *range(6_560, 6_570)))
+    for leg in EDGE_LEGS:
+        yield ('leg', *leg)
+        yield ('leg', *leg[2:], *leg[:2])
+    # points beside each other: at the equator, at a pole, over the date line
+    for latitude, longitude, north, east in itertools.product((0, 1, 455_000_000, 600_000_000, QUARTER - 1, QUARTER - 4), (0, -HALF_TURN),
+                                                              range(-4, 5), range(-4, 5)):
+        yield 'leg', latitude, longitude, latitude + north, turned(longitude + east)
+        yield 'leg', -latitude, longitude, -latitude + north, turned(longitude + east)
+    # the short sine of this leg's half ticks leaves 1,999,999,999, and then 1,999,999,998
+    yield from (('leg', 0, 0, 0, HALF_TURN - off) for off in (1, 2, 3, *range(3_280, 3_286), *range(6_563, 6_569)))
 
 
 def courses():
@@ -80,14 +105,17 @@ def steps():
 
 
 def row(k):
-    """The ways back to the first and the last tick of a row of the table: from their places, north and south, and those beside them; from legs
-    of twice as many ticks, or of those beside them, along a meridian and along the equator; and from legs that lead from a pole to the equator."""
+    """The ways back to the first and the last tick of a row of the table: from their places, north and south, and those beside them, and from legs
+    that lead from a pole to the equator. The sines of its first and last half ticks, and the ways back to them from legs of as many ticks, along a
+    meridian and along the equator."""
     first, last = k * STEP, (k + 1) * STEP - 1
     for latitude in (first, last, -first, -last):
         yield from (('cylindrical_back', -2 * latitude, model.long_sine(latitude) + off, 0) for off in (-1, 0, 1))
-    for half in (first, first + 1, last - 1, last):
-        yield 'leg', -half, 0, half, 0
-        yield 'leg', 0, -half, 0, half
+    first_half, last_half = k * STEP_IN_HALVES, (k + 1) * STEP_IN_HALVES - 1
+    for half_ticks in (first_half, first_half + 1, last_half - 1, last_half):
+        yield 'long_sine_half', half_ticks
+        yield 'leg', -(half_ticks // 2), 0, (half_ticks + 1) // 2, 0
+        yield 'leg', 0, -(half_ticks // 2), 0, (half_ticks + 1) // 2
     for offset in (first, last):
         yield 'course', -QUARTER, 0, 0, offset
 
@@ -175,6 +203,11 @@ def random_sine(some):
     return some.choice(['long_sine', 'short_sine']), ticks(some, some.choice([QUARTER, HALF_TURN]))
 
 
+def random_half_sine(some):
+    half_ticks = ticks(some, QUARTER_IN_HALVES)
+    return 'long_sine_half', half_ticks if some.random() < 0.1 else fitting(abs(half_ticks))
+
+
 def random_place(some):
     return (some.choice(['cylindrical', 'sinusoidal']), *point(some), ticks(some, HALF_TURN))
 
@@ -248,7 +281,7 @@ def run_of_steps(some, count):
 
 def random_calls(some, count):
     """So many calls of the doors that take numbers, which take turns."""
-    turns = itertools.cycle([random_sine, random_place, random_back, random_leg, random_leg, random_step])
+    turns = itertools.cycle([random_sine, random_half_sine, random_place, random_back, random_leg, random_leg, random_step])
     return [call(some) for call in itertools.islice(turns, count)]
 
 

@@ -243,6 +243,8 @@ int main(void)
             say_sine(senruhobi_long_sine(a));
         else if (is("short_sine") && scanf("%d", &a) == 1)
             say_sine(senruhobi_short_sine(a));
+        else if (is("long_sine_half") && scanf("%d", &a) == 1)
+            say_sine(senruhobi_long_sine_half(a));
         else if (is("cylindrical") && scanf("%d%d%d", &a, &b, &c) == 3)
             say_place(senruhobi_cylindrical(a, b, c));
         else if (is("sinusoidal") && scanf("%d%d%d", &a, &b, &c) == 3)

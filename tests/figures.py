@@ -39,6 +39,17 @@ SINES = {
     **{('short_sine', sign * (900_000_000 + off)): (0, sign * 999_999_999) for sign in (1, -1) for off in (1, 3_282)},
     ('short_sine', 900_000_000 + 3_283): (0, 999_999_998), ('short_sine', -900_000_000 - 3_283): (0, -999_999_998),
 }
+HALF_SINES = {
+    # "with step 400,000 and the same table": 3,490,658,433 / 400,000 is 8,726.6..
+    ('long_sine_half', 1): (0, 8_726), ('long_sine_half', 3): (0, 26_179), ('long_sine_half', 399_999): (0, 3_490_649_706),
+    # in the last step it grows by 609,235, which is 1.5.. a half tick
+    ('long_sine_half', 1_799_600_000): (0, 10**13 - 609_235), ('long_sine_half', 1_799_600_001): (0, 10**13 - 609_234),
+    ('long_sine_half', 1_799_999_999): (0, 10**13 - 2),
+    # half as many ticks have the same sine, and so the entries stand at every 400,000 half ticks
+    **{('long_sine_half', 2 * angle): answer for (sine, angle), answer in SINES.items() if sine == 'long_sine' and 0 <= angle <= 900_000_000},
+    # "from 0 to 90 degrees in half ticks (6 outside)"
+    **{('long_sine_half', half_ticks): (6, 0) for half_ticks in (LEAST, -1_800_000_000, -600_000_000, -2, -1, 1_800_000_001, GREATEST)},
+}
 SHEETS = {
     ('cylindrical', 300_000_000, 100_000_000, 0): (0, 100_000_000, 5 * 10**12),
     ('sinusoidal', 600_000_000, 100_000_000, 0): (0, 5 * 10**16, 600_000_000),
@@ -81,16 +92,24 @@ BACK = {
     **{(back, x, 0, 0): (11, 0, 0) for back in ('cylindrical_back', 'sinusoidal_back') for x in (LEAST_64, -2**32, 2**32, GREATEST_64)},
     ('sinusoidal_back', 0, 2**32, 0): (11, 0, 0),
 }
+# In the length rule the short sines of 0 to 6 half ticks are 0, 1, 3, 5, 6, 8, 10.
 LEGS = {
-    (0, 0, 0, 0): 0, (0, 0, 1, 0): 0, (0, 0, 2, 0): 22, (0, 0, 3, 0): 22, (-1, 0, 1, 0): 22,
+    # "One tick north is then 11 mm, two are 22, and equal points 0."
+    (0, 0, 0, 0): 0, (0, 0, 1, 0): 11, (0, 0, 2, 0): 22, (0, 0, 3, 0): 33, (-1, 0, 1, 0): 22, (600_000_000, 5, 600_000_000, 5): 0,
+    (600_000_000, 5, 600_000_001, 5): 11, (600_000_001, 5, 599_999_999, 5): 22, (899_999_999, 0, 900_000_000, 0): 11,
+    # along the equator m is 2×10^9, and east is as north; d reaches 3,599,999,999, and is 1 the other way round
+    (0, 0, 0, 1): 11, (0, 0, 0, 2): 22, (0, 0, 0, 3): 33, (0, 1_799_999_999, 0, -1_800_000_000): 11,
+    # off it m is less: of a tick east nothing is left; at 60 degrees m is 5×10^8, and a quarter is left of the squares
+    (1, 0, 1, 1): 0, (1, 0, 1, 2): 11, (0, 0, 1, 1): 11, (600_000_000, 0, 600_000_000, 1): 0, (600_000_000, 0, 600_000_000, 2): 11,
+    (600_000_000, 0, 600_000_000, 3): 11, (600_000_000, 0, 600_000_000, 4): 22, (600_000_000, 0, 600_000_001, 1): 11,
     (0, 1_799_000_000, 0, -1_799_000_000): 22_238_985, (900_000_000, 0, -900_000_000, 0): 20_015_086_860,
     # a pole is one point, whatever its longitude
     (900_000_000, -1_800_000_000, 900_000_000, 0): 0, (900_000_000, 1, -900_000_000, -1_234_567_890): 20_015_086_860,
-    (0, 0, 0, 900_000_000): 10_007_543_430, (0, 0, 0, 1_799_990_000): 20_015_013_849, (0, 0, 0, -1_800_000_000): 20_015_086_860,
-    # d reaches 3,599,999,999, and is 1 the other way round
-    (0, 1_799_999_999, 0, -1_800_000_000): 0,
+    (0, 0, 0, 900_000_000): 10_007_543_430, (0, 0, 0, 1_799_990_000): 20_014_977_344, (0, 0, 0, -1_800_000_000): 20_015_086_860,
+    # the 3,282 half ticks below 90 degrees share a short sine, and u is the last of them
+    (0, 0, 0, 1_799_999_999): 20_015_086_848, (0, 0, 0, 1_800_000_000 - 3_282): 20_015_086_848, (0, 0, 0, 1_800_000_000 - 3_283): 20_015_050_354,
     # m is floored first
-    (-388_974_850, 745_373_330, 268_723_365, -1_239_838_359): 17_836_465_737,
+    (-388_974_850, 745_373_330, 268_723_365, -1_239_838_359): 17_836_465_815,
 }
 # "Both directions of a leg have one length."
 BOTH_WAYS = {('leg', *points): (0, length) for leg, length in LEGS.items() for points in (leg, leg[2:] + leg[:2])}
@@ -308,6 +327,8 @@ ACCEPTED_TEXTS = [
     (route('comma', 't 10,000', 'p 0 0', 'p 0 90'), (2, 1, 10_007_543_430, 10_000_000), [0, 0, 1, 0, 900_000_000, 0]),
     (route('point', 't 1', 'p 90 -180', 'g', 'p -0.0000001 5'), (2, 1, 0, 1_000_000), [900_000_000, -1_800_000_000, 1, -1, 50_000_000, 1]),
     (route('point', 'p -90 179.9999999', 'p -0 -000.0'), (2, 0, 10_007_543_430, 0), [-900_000_000, 1_799_999_999, 1, 0, 0, 0]),
+    # "points a tick apart"
+    (route('point', 'p 0 0', 'p 0.0000001 0', 'p 0.0000002 0'), (3, 0, 22, 0), [0, 0, 1, 1, 0, 0, 2, 0, 0]),
     (route('point', *THOUSAND), (1000, 0, 0, 0), [0, 0, 1, *999 * [0, 0, 0]]),
     (route('comma', *500 * ['p 90 0', 'p -90 0']), (1000, 0, 999 * 20_015_086_860, 0),
      [900_000_000, 0, 1, -900_000_000, 0, 0, *499 * [900_000_000, 0, 0, -900_000_000, 0, 0]]),
@@ -469,5 +490,5 @@ OTHER_WAYS = [
     (route('point', 't 000.000', 'p 090.0 -180.0', 'g', 'p 000 179.9999990'), route('point', 't 0', 'p 90 -180', 'g', 'p 0 179.999999')),
     (route('point', 't 999.90'), route('point', 't 999.9')), (route('comma', 'p 007 100'), route('comma', 'p 7 100')),
 ]
-FIGURES = [*SINES.items(), *SHEETS.items(), *BACK.items(), *BOTH_WAYS.items(), *DIRECTIONS.items(), *STEPS, *orders(), *WRITINGS, *MEASURES,
-           *readings()]
+FIGURES = [*SINES.items(), *HALF_SINES.items(), *SHEETS.items(), *BACK.items(), *BOTH_WAYS.items(), *DIRECTIONS.items(), *STEPS, *orders(),
+           *WRITINGS, *MEASURES, *readings()]

@@ -3,7 +3,7 @@ written, and its report, the pen, and the doors for C over all of these.
 
 Each rule is written from the document's sentence, which stands above it in quotes, and not from the Rattle definitions. So the tests hold
 the compiled code to a second reading of the same page. What refuses a point buffer, and how a route is written, is quoted from the first of
-the later requests, which angles have a sine from the second, and the course from the third. Nothing here is quick.
+the later requests, which angles have a sine from the second, the course from the third, and half ticks from the fourth. Nothing here is quick.
 """
 import math
 import re
@@ -13,7 +13,9 @@ from sine import ENTRIES
 DEGREE = 10_000_000  # "a tick is one ten-millionth of a degree"
 QUARTER, HALF_TURN, TURN = 90 * DEGREE, 180 * DEGREE, 360 * DEGREE
 STEP = 200_000  # ticks from one entry of the table to the next
+QUARTER_IN_HALVES, STEP_IN_HALVES = 2 * QUARTER, 400_000  # the same in half ticks
 SHORT_UNIT = 10**9  # the short sine of 90 degrees
+LEG_UNIT = 2 * 10**9  # in the length rule alone: "2×10^9 stands for 10^9 in both divisions"
 MILLIMETRES = 111_194_927  # in a degree of a great circle
 
 MOST_BYTES = 60_000
@@ -45,6 +47,17 @@ def greatest(low, high, holds):
 
 # Angles and sines
 
+def between_entries(angle, step):
+    """The long sine of an angle "from 0 to 90 degrees", of whose units so many lead from one entry of the table to the next."""
+    # "with k = a / 200,000 and f the remainder"
+    k, f = divmod(angle, step)
+    # "at 90 degrees the last entry"
+    if k == len(ENTRIES) - 1:
+        return ENTRIES[k]
+    # "entry k plus the floor of f × (entry k+1 - entry k) / 200,000"
+    return ENTRIES[k] + f * (ENTRIES[k + 1] - ENTRIES[k]) // step
+
+
 def long_sine(angle):
     # "A negative angle gives the negative of its opposite."
     if angle < 0:
@@ -52,12 +65,12 @@ def long_sine(angle):
     # "beyond 90, the sine of 180 less the angle"
     if angle > QUARTER:
         return long_sine(HALF_TURN - angle)
-    # "at 90 degrees the last entry"
-    if angle == QUARTER:
-        return ENTRIES[-1]
-    # "with k = a / 200,000 and f the remainder, entry k plus the floor of f × (entry k+1 - entry k) / 200,000"
-    k, f = divmod(angle, STEP)
-    return ENTRIES[k] + f * (ENTRIES[k + 1] - ENTRIES[k]) // STEP
+    return between_entries(angle, STEP)
+
+
+def long_sine_half(half_ticks):
+    # "Long sine is now also given from 0 to 90 degrees in half ticks .., with step 400,000 and the same table."
+    return between_entries(half_ticks, STEP_IN_HALVES)
 
 
 def short_sine(angle):
@@ -83,6 +96,11 @@ def longitude_in_range(longitude):
 def angle_in_range(angle):
     # "Long and short sine now accept -180 to 180 degrees, both allowed"
     return -HALF_TURN <= angle <= HALF_TURN
+
+
+def half_ticks_in_range(half_ticks):
+    # "from 0 to 90 degrees in half ticks (6 outside)"
+    return 0 <= half_ticks <= QUARTER_IN_HALVES
 
 
 # Two sheets
@@ -136,27 +154,45 @@ def sinusoidal_back(x, y, meridian):
 
 # Length of a leg
 
+def leg_sine(half_ticks):
+    # "In the length rule alone, short sines and cosines are the long ones divided by 5,000": none of them is below 0
+    return long_sine_half(half_ticks) // 5_000
+
+
+def leg_cosine(latitude):
+    # "the sine, long or short, of 90 degrees less its size"
+    return long_sine(QUARTER - abs(latitude)) // 5_000
+
+
+def half_differences(latitude, longitude, latitude2, longitude2):
+    """p and q: "Length uses whole differences as half-tick counts"."""
+    # "Let p be half the size of the latitude difference"
+    p = abs(latitude - latitude2)
+    # "Let q be half of the smaller of d and 3,600,000,000 - d, .. where d is the size of the longitude difference."
+    d = abs(longitude - longitude2)
+    return p, min(d, TURN - d)
+
+
+def leg_number(latitude, longitude, latitude2, longitude2):
+    """H."""
+    p, q = half_differences(latitude, longitude, latitude2, longitude2)
+    # "Let m be the product of the two short cosines divided by 10^9, floored."
+    m = leg_cosine(latitude) * leg_cosine(latitude2) // LEG_UNIT
+    # "H = (short sine of p)² + floor(m × (short sine of q)² / 10^9), the last product exact before the division."
+    return leg_sine(p)**2 + m * leg_sine(q)**2 // LEG_UNIT
+
+
 def greatest_angle(r):
-    # "Let u be the greatest angle from 0 to 90 degrees whose short sine is at most r": the short sine never falls
-    return greatest(0, QUARTER, lambda angle: short_sine(angle) <= r)
+    # "Let u be the greatest angle from 0 to 90 degrees whose short sine is at most r"; "The u is sought in half ticks": the sine never falls
+    return greatest(0, QUARTER_IN_HALVES, lambda half_ticks: leg_sine(half_ticks) <= r)
 
 
 def leg(latitude, longitude, latitude2, longitude2):
     """The millimetres from one point to another."""
-    # "Let p be half the size of the latitude difference, dropping a half."
-    p = abs(latitude - latitude2) // 2
-    # "Let q be half of the smaller of d and 3,600,000,000 - d, dropping a half, where d is the size of the longitude difference."
-    d = abs(longitude - longitude2)
-    q = min(d, TURN - d) // 2
-    # "Let m be the product of the two short cosines divided by 10^9, floored."
-    m = short_cosine(latitude) * short_cosine(latitude2) // SHORT_UNIT
-    # "H = (short sine of p)² + floor(m × (short sine of q)² / 10^9), the last product exact before the division."
-    h = short_sine(p)**2 + m * short_sine(q)**2 // SHORT_UNIT
     # "Let r be the greatest whole number whose square is at most H."
-    r = math.isqrt(h)
-    # "The arc is 2u ticks. Its length is arc × 111,194,927 / 10,000,000 millimetres, floored."
-    arc = 2 * greatest_angle(r)
-    return arc * MILLIMETRES // DEGREE
+    r = math.isqrt(leg_number(latitude, longitude, latitude2, longitude2))
+    # "the arc is u ticks"; "Its length is arc × 111,194,927 / 10,000,000 millimetres, floored."
+    return greatest_angle(r) * MILLIMETRES // DEGREE
 
 
 def legs_of(points):
@@ -421,6 +457,11 @@ def sine_door(sine, angle):
     return (0, sine(angle)) if angle_in_range(angle) else (6, 0)
 
 
+def half_door(half_ticks):
+    # "6 outside"
+    return (0, long_sine_half(half_ticks)) if half_ticks_in_range(half_ticks) else (6, 0)
+
+
 def sheet_door(sheet, latitude, longitude, meridian):
     # "Sheets: 14, 6, 7."
     refusal = bad_meridian(meridian) or bad_point(latitude, longitude)
@@ -519,6 +560,7 @@ def pen_door(pen, left, right, bottom, top, divisor, meridian, latitude, longitu
 DOORS = {
     'long_sine': lambda angle: sine_door(long_sine, angle),
     'short_sine': lambda angle: sine_door(short_sine, angle),
+    'long_sine_half': half_door,
     'cylindrical': lambda *point: sheet_door(cylindrical, *point),
     'sinusoidal': lambda *point: sheet_door(sinusoidal, *point),
     'cylindrical_back': lambda *place: back_door(cylindrical_back, *place),

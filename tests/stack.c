@@ -34,6 +34,7 @@ int main(void)
         bytes += sprintf(text + bytes, "p\t%d.%d\t-%d\n", i % 90, i, i % 180);
     SAY(long_sine, 123456789);
     SAY(short_sine, 123456789);
+    SAY(long_sine_half, 123456789);
     SAY(cylindrical, 1, 2, 3);
     SAY(sinusoidal, 1, 2, 3);
     SAY(cylindrical_back, -1, 17453, 3);

@@ -4,6 +4,7 @@ table, with texts, buffers and outputs wherever they may lie, and on random call
 Answers are compared as lines, which have every field and every number or byte of what was lent. What the documents say holds the doors and
 the model; to any other call the doors have to answer what the model answers.
 """
+import bisect
 import collections
 import itertools
 import math
@@ -18,16 +19,16 @@ import doors
 import model
 import texts
 from figures import ACCEPTED_TEXTS, DOWN, FIGURES, MEASURES, OTHER_WAYS, REFUSED_TEXTS, THIRD, UP, WRITINGS, route
-from model import ENTRIES, HALF_TURN, NUMBERS, QUARTER, STEP
+from model import ENTRIES, HALF_TURN, LEG_UNIT, NUMBERS, QUARTER, QUARTER_IN_HALVES, STEP, STEP_IN_HALVES
 from test_routes import COUNT, ROUTES, SEED
 
 # writings into an output that their text fills
 FITTING = [call for call, (refusal, size, *_) in WRITINGS if not refusal and call[-2] == size]
 # the refusals of each door; 0 is none
 REFUSALS = {
-    'long_sine': {0, 6}, 'short_sine': {0, 6}, 'cylindrical': {0, 6, 7, 14}, 'sinusoidal': {0, 6, 7, 14}, 'cylindrical_back': {0, 11, 14},
-    'sinusoidal_back': {0, 11, 14}, 'leg': {0, 6, 7}, 'course': {0, 6, 7, 18}, 'measure': {0, 6, 7, 9, 17}, 'read_route': set(range(11)),
-    'write_route': {0, 6, 7, 9, 15, 16, 17}, 'pen_step': {0, 6, 7, 12, 13, 14},
+    'long_sine': {0, 6}, 'short_sine': {0, 6}, 'long_sine_half': {0, 6}, 'cylindrical': {0, 6, 7, 14}, 'sinusoidal': {0, 6, 7, 14},
+    'cylindrical_back': {0, 11, 14}, 'sinusoidal_back': {0, 11, 14}, 'leg': {0, 6, 7}, 'course': {0, 6, 7, 18}, 'measure': {0, 6, 7, 9, 17},
+    'read_route': set(range(11)), 'write_route': {0, 6, 7, 9, 15, 16, 17}, 'pen_step': {0, 6, 7, 12, 13, 14},
 }
 
 BAD_POINT, BAD_POINTS, BAD_THIRDS, DRAWN, GREATEST_ANGLE = model.bad_point, model.bad_points, model.bad_thirds, model.drawn, model.greatest_angle
@@ -35,6 +36,7 @@ LINES_OF, LONG_SINE, MEASURE_DOOR, NUMBER_OF, PEN_DOOR = model.lines_of, model.l
 NUMBER_TEXT, READ, ROUTE_TEXT, WRITE_DOOR = model.number_text, model.read, model.route_text, model.write_door
 ANGLE_OF_RATIO, COURSE, COURSE_NUMBERS = model.angle_of_ratio, model.course, model.course_numbers
 IN_QUARTER, OFFSET_COSINE = model.in_quarter, model.offset_cosine
+HALF_DIFFERENCES, HALF_DOOR, LEG_NUMBER, LONG_SINE_HALF = model.half_differences, model.half_door, model.leg_number, model.long_sine_half
 
 
 def rounded_sinusoidal(latitude, longitude, meridian):
@@ -68,13 +70,27 @@ def staying_pen(pen, *arguments):
     return (*answer, after or min(pen, DOWN))
 
 
-def leg_without_floor(latitude, longitude, latitude2, longitude2):
-    """Divides once, and not m first."""
-    p, d = abs(latitude - latitude2) // 2, abs(longitude - longitude2)
-    q = min(d, model.TURN - d) // 2
-    product = model.short_cosine(latitude) * model.short_cosine(latitude2) * model.short_sine(q)**2
-    r = math.isqrt(model.short_sine(p)**2 + product // 10**18)
-    return 2 * GREATEST_ANGLE(r) * model.MILLIMETRES // model.DEGREE
+def leg_in_ticks(*leg):
+    """The length before half ticks: halves dropped, short sines over 10,000, 10^9 in both divisions, u sought in ticks."""
+    p, q = (difference // 2 for difference in HALF_DIFFERENCES(*leg))
+    m = model.short_cosine(leg[0]) * model.short_cosine(leg[2]) // 10**9
+    r = math.isqrt(model.short_sine(p)**2 + m * model.short_sine(q)**2 // 10**9)
+    return 2 * model.greatest(0, QUARTER, lambda angle: model.short_sine(angle) <= r) * model.MILLIMETRES // model.DEGREE
+
+
+def number_by(product=lambda cosine, cosine2: cosine * cosine2 // LEG_UNIT, last=lambda m, sine: m * sine**2 // LEG_UNIT):
+    """H, with another m or another last product."""
+    def number(*leg):
+        p, q = model.half_differences(*leg)
+        return model.leg_sine(p)**2 + last(product(model.leg_cosine(leg[0]), model.leg_cosine(leg[2])), model.leg_sine(q))
+    return number
+
+
+def finer_course_numbers(latitude, longitude, latitude2, longitude2):
+    """N and D with the length rule's sines and divisors."""
+    with mock.patch.object(model, 'SHORT_UNIT', LEG_UNIT), \
+            mock.patch.object(model, 'short_sine', lambda angle: model.dropped(model.long_sine(angle), 5_000)):
+        return COURSE_NUMBERS(latitude, longitude, latitude2, longitude2)
 
 
 def one_division(latitude, longitude, latitude2, longitude2):
@@ -151,11 +167,11 @@ def every_target(numbers, has_target, target, *more):
 WRONG = [
     ('latitude_in_range', lambda latitude: abs(latitude) < QUARTER),
     ('longitude_in_range', lambda longitude: abs(longitude) <= HALF_TURN),
-    # 180 degrees refused, -180 alone accepted, a tick more accepted; the range of a latitude widened with that of a sine
+    # 180 degrees refused, -180 alone accepted, a tick more accepted; a tick more accepted in a latitude
     ('angle_in_range', lambda angle: abs(angle) < HALF_TURN),
     ('angle_in_range', model.longitude_in_range),
     ('angle_in_range', lambda angle: abs(angle) <= HALF_TURN + 1),
-    ('latitude_in_range', model.angle_in_range),
+    ('latitude_in_range', lambda latitude: abs(latitude) <= QUARTER + 1),
     # the sine beyond 90 degrees taken as that of 90, and even there
     ('long_sine', lambda angle: LONG_SINE(max(-QUARTER, min(angle, QUARTER)))),
     ('long_sine', lambda angle: LONG_SINE(angle if abs(angle) <= QUARTER else abs(angle))),
@@ -165,9 +181,53 @@ WRONG = [
     ('TURN', model.TURN + 2),
     ('sinusoidal', rounded_sinusoidal),
     ('only_there', lambda sheet, latitude, longitude, meridian, place: (latitude, longitude)),
-    ('leg', leg_without_floor),
-    ('greatest_angle', lambda r: QUARTER - 3_282 if r == 10**9 - 1 else GREATEST_ANGLE(r)),
+    # half ticks taken for ticks, an odd one dropped, and worked out from the ticks beside it
+    ('long_sine_half', LONG_SINE),
+    ('long_sine_half', lambda half_ticks: LONG_SINE_HALF(half_ticks // 2 * 2)),
+    ('long_sine_half', lambda half_ticks: (LONG_SINE(half_ticks // 2) + LONG_SINE((half_ticks + 1) // 2)) // 2),
+    # the range of ticks, sines below 0 and beyond 90 degrees as in ticks; 90 degrees refused, half a tick more accepted, 45 degrees the most
+    ('half_ticks_in_range', model.angle_in_range),
+    ('DOORS', {**model.DOORS, 'long_sine_half': lambda half_ticks: (
+        (0, -LONG_SINE_HALF(-half_ticks)) if -QUARTER_IN_HALVES <= half_ticks < 0 else HALF_DOOR(half_ticks))}),
+    ('DOORS', {**model.DOORS, 'long_sine_half': lambda half_ticks: HALF_DOOR(min(half_ticks, 2 * QUARTER_IN_HALVES - half_ticks))}),
+    ('half_ticks_in_range', lambda half_ticks: 0 <= half_ticks < QUARTER_IN_HALVES),
+    ('half_ticks_in_range', lambda half_ticks: 0 <= half_ticks <= QUARTER_IN_HALVES + 1),
+    ('half_ticks_in_range', lambda half_ticks: 0 <= half_ticks <= QUARTER),
+    # the length before half ticks, of every leg, and of those of a route alone; halves dropped, in the latitudes alone, and in the longitudes
+    # alone; p and q swapped
+    ('leg', leg_in_ticks),
+    ('length_of', lambda points: sum(leg_in_ticks(*ends) for ends in model.legs_of(points))),
+    ('half_differences', lambda *leg: tuple(difference // 2 * 2 for difference in HALF_DIFFERENCES(*leg))),
+    ('half_differences', lambda *leg: (HALF_DIFFERENCES(*leg)[0] // 2 * 2, HALF_DIFFERENCES(*leg)[1])),
+    ('half_differences', lambda *leg: (HALF_DIFFERENCES(*leg)[0], HALF_DIFFERENCES(*leg)[1] // 2 * 2)),
+    ('half_differences', lambda *leg: HALF_DIFFERENCES(*leg)[::-1]),
+    # 10^9 left in both divisions, in the first, and in the second; the sines over 10,000, that of q alone, that of u alone, and the cosines;
+    # the ticks of a cosine taken for half ticks
+    ('LEG_UNIT', 10**9),
+    ('leg_number', number_by(product=lambda cosine, cosine2: cosine * cosine2 // 10**9)),
+    ('leg_number', number_by(last=lambda m, sine: m * sine**2 // 10**9)),
+    ('leg_sine', lambda half_ticks: LONG_SINE_HALF(half_ticks) // 10_000),
+    ('leg_number', number_by(last=lambda m, sine: m * (sine // 2)**2 // LEG_UNIT)),
+    ('greatest_angle', lambda r: model.greatest(0, QUARTER_IN_HALVES, lambda half_ticks: LONG_SINE_HALF(half_ticks) // 10_000 <= r)),
+    ('leg_cosine', model.short_cosine),
+    ('leg_cosine', lambda latitude: LONG_SINE_HALF(QUARTER - abs(latitude)) // 5_000),
+    # one division for two, the last product not exact, in 64 bits, and rounded up
+    ('leg_number', number_by(lambda cosine, cosine2: cosine * cosine2, lambda product, sine: product * sine**2 // LEG_UNIT**2)),
+    ('leg_number', number_by(last=lambda m, sine: m * (sine**2 // LEG_UNIT))),
+    ('leg_number', number_by(last=lambda m, sine: m * sine // LEG_UNIT * sine)),
+    ('leg_number', number_by(last=lambda m, sine: m * sine**2 % 2**64 // LEG_UNIT)),
+    ('leg_number', number_by(last=lambda m, sine: -(-m * sine**2 // LEG_UNIT))),
+    # u sought in ticks, up to 45 degrees, with "less than" for "at most", and as the least of those that share a sine; the arc doubled, and halved
+    ('greatest_angle', lambda r: GREATEST_ANGLE(r) // 2 * 2),
+    ('greatest_angle', lambda r: min(GREATEST_ANGLE(r), QUARTER)),
+    ('greatest_angle', lambda r: GREATEST_ANGLE(r - 1)),
+    ('greatest_angle', lambda r: QUARTER_IN_HALVES - 3_282 if r == LEG_UNIT - 1 else GREATEST_ANGLE(r)),
+    ('greatest_angle', lambda r: 2 * GREATEST_ANGLE(r)),
+    ('greatest_angle', lambda r: GREATEST_ANGLE(r) // 2),
     ('MILLIMETRES', 111_194_926),
+    # the length rule's sines in a course, and on a sheet
+    ('course_numbers', finer_course_numbers),
+    ('sinusoidal', lambda latitude, longitude, meridian: (model.offset_of(longitude, meridian) * model.leg_cosine(latitude), latitude)),
     # N and D swapped; the offset the other way round, without the turn, and in 32 bits; its cosine positive beyond 90 degrees
     ('course_numbers', lambda *leg: COURSE_NUMBERS(*leg)[::-1]),
     ('course_numbers', lambda latitude, longitude, latitude2, longitude2: COURSE_NUMBERS(latitude, longitude2, latitude2, longitude)),
@@ -244,9 +304,13 @@ WRONG = [
     ('DOORS', {**model.DOORS, 'write_route': lambda numbers, has_target, target, comma, *more: WRITE_DOOR(
         numbers, has_target, target, comma % 256, *more)}),
 ]
-# what chance brings seldom or never: third numbers behind the 1,000th point not judged; 6 of all points before 7 of any; one byte or one
-# target taken for another
+# what chance brings seldom or never: the sine of 0 half ticks refused; m, the last product and r worked out in floats; third numbers behind the
+# 1,000th point not judged; 6 of all points before 7 of any; one byte or one target taken for another
 WRONG_SELDOM = [
+    ('half_ticks_in_range', lambda half_ticks: 0 < half_ticks <= QUARTER_IN_HALVES),
+    ('leg_number', number_by(product=lambda cosine, cosine2: int(cosine * cosine2 / LEG_UNIT))),
+    ('leg_number', number_by(last=lambda m, sine: int(m * sine**2 / LEG_UNIT))),
+    ('leg', lambda *leg: GREATEST_ANGLE(int(math.sqrt(LEG_NUMBER(*leg)))) * model.MILLIMETRES // model.DEGREE),
     ('bad_thirds', lambda numbers: BAD_THIRDS(numbers if len(numbers) % NUMBERS else numbers[:model.MOST_NUMBERS])),
     ('bad_points', lambda points: BAD_POINTS([(point[0], 0, 0) for point in points]) or BAD_POINTS(points)),
     ('number_of', lambda field, *more, **rule: NUMBER_OF(field.replace(b'\xb5', b'5'), *more, **rule)),
@@ -286,16 +350,19 @@ def plain(call):
 
 
 def rows_in(given, said):
-    """The rows of the table that ways back, legs and courses came upon: north and south, and of half a leg along a meridian and along the equator."""
-    found = {'north': set(), 'south': set(), 'meridian': set(), 'equator': set(), 'course': set()}
+    """The rows of the table that ways back, sines of half ticks, legs and courses came upon: north and south, and of half a leg along a meridian and
+    along the equator."""
+    found = {'north': set(), 'south': set(), 'half ticks': set(), 'meridian': set(), 'equator': set(), 'course': set()}
     for (door, first, *_), line in zip(given, said):
         refusal, value, *_ = map(int, line.split())
         if door == 'cylindrical_back' and not refusal:
             found['north' if value >= 0 else 'south'].add(abs(value) // STEP)
+        if door == 'long_sine_half':
+            found['half ticks'].add(bisect.bisect(ENTRIES, value) - 1)
         if door == 'leg':
-            # "The arc is 2u ticks. Its length is arc × 111,194,927 / 10,000,000 millimetres, floored": each arc has a length of its own
+            # "the arc is u ticks"; "Its length is arc × 111,194,927 / 10,000,000 millimetres, floored": each arc has a length of its own
             arc = -(-value * model.DEGREE // model.MILLIMETRES)
-            found['meridian' if first else 'equator'].add(arc // 2 // STEP)
+            found['meridian' if first else 'equator'].add(arc // STEP_IN_HALVES)
         if door == 'course':
             found[door].add(value // STEP)
     return found
@@ -330,6 +397,9 @@ class Figures(unittest.TestCase):
             for quarter in (angles, [HALF_TURN - angle for angle in angles]):
                 said = doors.answers([('long_sine', sign * angle) for angle in quarter])
                 self.assertEqual(said, [f'0 {sign * entry}' for entry in ENTRIES])
+        # "with step 400,000 and the same table"
+        said = doors.answers([('long_sine_half', 2 * angle) for angle in angles])
+        self.assertEqual(said, [f'0 {entry}' for entry in ENTRIES])
         entries = [int(line.split()[1]) for line in said]
         self.assertEqual(min(after - before for before, after in zip(entries, entries[1:])), 609_235)
         bends = [(before + after - 2 * entry) * 10**20 + 12_184_696_667_746 * entry
@@ -371,13 +441,13 @@ class Fixed(Compared, unittest.TestCase):
 
     @classmethod
     def setUpClass(cls):
-        cls.given = [*Figures.given, *calls.every_byte(), *calls.sines(), *calls.sheets(), *calls.places(), *calls.legs(), *calls.courses(),
-                     *calls.steps(), *calls.files(ROUTES), *calls.writings()]
+        cls.given = [*Figures.given, *calls.every_byte(), *calls.sines(), *calls.half_sines(), *calls.sheets(), *calls.places(), *calls.legs(),
+                     *calls.courses(), *calls.steps(), *calls.files(ROUTES), *calls.writings()]
         cls.said = doors.answers(cls.given)
 
 
 class Rows(unittest.TestCase):
-    """Every row of the table, on the way back to a latitude, to half a leg and to a course."""
+    """Every row of the table: the sines of its half ticks, and the way back to a latitude, to half a leg and to a course."""
     ROWS = range(4500)
 
     @classmethod
@@ -410,6 +480,7 @@ class Rows(unittest.TestCase):
             given, said = self.given[self.part(k)], self.said[self.part(k)]
             self.assertEqual(differing(given, said, modelled(given)), [])
             for name, value in (('ENTRIES', [*ENTRIES[:k + 1], ENTRIES[k + 1] - 1, *ENTRIES[k + 2:]]),
+                                ('long_sine_half', lambda half_ticks: LONG_SINE_HALF(half_ticks) - 1),
                                 ('greatest_angle', lambda r: GREATEST_ANGLE(r) - 1),
                                 ('angle_of_ratio', lambda n, d: ANGLE_OF_RATIO(n, d) - 1)):
                 with self.subTest(name, row=k), mock.patch.object(model, name, value):
@@ -510,7 +581,7 @@ class Random(Compared, unittest.TestCase):
     @classmethod
     def setUpClass(cls):
         some = random.Random(SEED)
-        cls.given = [*calls.random_calls(some, 60 * COUNT), *calls.random_readings(some, COUNT), *calls.random_measures(some, COUNT),
+        cls.given = [*calls.random_calls(some, 70 * COUNT), *calls.random_readings(some, COUNT), *calls.random_measures(some, COUNT),
                      *calls.random_writings(some, 2 * COUNT)]
         some.shuffle(cls.given)  # so that what is wrong with one door is seen before all the others are through
         cls.said = doors.answers(cls.given)

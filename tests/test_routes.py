@@ -34,7 +34,7 @@ POLE_TO_POLE = 20_015_086_860
 # what each program prints by the model, and how the files with what it prints for an accepted route end
 PROGRAMS = {'routereport': (model.report, '.report'), 'courselist': (model.course_list, '.courses')}
 
-LEG, COURSE = model.leg, model.course
+LEG, COURSE, GREATEST_ANGLE, HALF_DIFFERENCES = model.leg, model.course, model.greatest_angle, model.half_differences
 # parts of the model, each replaced by a wrong one
 WRONG = {
     'HEADERS': {**model.HEADERS, (b'route\tpoint', False): b'.'},
@@ -46,6 +46,9 @@ WRONG = {
     'longitude_in_range': lambda longitude: abs(longitude) <= model.HALF_TURN,
     'TURN': model.TURN + 2,
     'leg': lambda *ends: LEG(*ends) + 1,
+    'half_differences': lambda *ends: tuple(difference // 2 * 2 for difference in HALF_DIFFERENCES(*ends)),
+    'LEG_UNIT': 10**9,
+    'greatest_angle': lambda r: GREATEST_ANGLE(r) // 2 * 2,
     'legs_of': lambda points: [(*a[:2], *b[:2]) for a, b in zip(points, points[1:])],
 }
 # wrong courses, which only the list shows
@@ -118,7 +121,7 @@ class Files(unittest.TestCase):
         routes = {path.stem for path in ROUTES.glob('*.route')}
         accepted = {stem for stem in routes if stem.startswith('accepted-')}
         self.assertEqual(names, {stem + end for stem in routes for end in ('.route', '.report')} | {stem + '.courses' for stem in accepted})
-        self.assertEqual(len(routes), 272)  # one that is gone is missed
+        self.assertEqual(len(routes), 280)  # one that is gone is missed
 
     def test_names_tell_the_answers_and_no_refusal_is_left_out(self):
         numbers = set()
@@ -256,13 +259,23 @@ class Model(unittest.TestCase):
         self.assertEqual([model.long_sine(1), model.short_sine(1), model.long_sine(-1), model.short_sine(-1)], [17_453, 1, -17_453, -1])
         self.assertEqual([model.long_sine(150 * sign * model.DEGREE) for sign in (1, -1)], [5 * 10**12, -5 * 10**12])
         self.assertEqual([model.short_cosine(model.QUARTER - k) for k in range(6)], [0, 1, 3, 5, 6, 8])
-        # "greatest angle" matters below 90 degrees: 3,282 ticks there share one short sine
-        self.assertEqual([model.greatest_angle(10**9 - k) for k in (0, 1, 2)], [model.QUARTER, model.QUARTER - 1, model.QUARTER - 3_283])
+
+    def test_sines_in_half_ticks(self):
+        self.assertEqual([model.long_sine_half(k) for k in (0, 1, 2, 3, 400_000, 600_000_000, 1_800_000_000)],
+                         [0, 8_726, 17_453, 26_179, 3_490_658_433, 5 * 10**12, 10**13])
+        self.assertEqual([model.half_ticks_in_range(k) for k in (-1, 0, 1_800_000_000, 1_800_000_001)], [False, True, True, False])
+        # "short sines and cosines are the long ones divided by 5,000"
+        self.assertEqual([model.leg_sine(k) for k in (*range(7), 600_000_000, 1_800_000_000)], [0, 1, 3, 5, 6, 8, 10, 10**9, 2 * 10**9])
+        self.assertEqual([model.leg_cosine(sign * k) for k in (0, 1, 600_000_000, model.QUARTER - 1, model.QUARTER) for sign in (1, -1)],
+                         [2 * 10**9, 2 * 10**9, 2 * 10**9 - 1, 2 * 10**9 - 1, 10**9, 10**9, 3, 3, 0, 0])
+        # "greatest angle" matters below 90 degrees: 3,282 half ticks there share one short sine
+        self.assertEqual([model.greatest_angle(2 * 10**9 - k) for k in (0, 1, 2)], [1_800_000_000, 1_799_999_999, 1_800_000_000 - 3_283])
 
     def test_lengths(self):
-        for leg, length in (((0, 0, 1, 0), 0), ((0, 0, 2, 0), 22), ((0, 0, 3, 0), 22), ((0, 1_799_000_000, 0, -1_799_000_000), 22_238_985),
-                            ((900_000_000, 0, -900_000_000, 0), POLE_TO_POLE), ((0, 0, 0, 1_799_990_000), 20_015_013_849),
-                            ((-388_974_850, 745_373_330, 268_723_365, -1_239_838_359), 17_836_465_737)):
+        for leg, length in (((0, 0, 0, 0), 0), ((0, 0, 1, 0), 11), ((0, 0, 2, 0), 22), ((0, 0, 3, 0), 33), ((600_000_000, 0, 600_000_000, 1), 0),
+                            ((0, 1_799_000_000, 0, -1_799_000_000), 22_238_985), ((900_000_000, 0, -900_000_000, 0), POLE_TO_POLE),
+                            ((0, 0, 0, 900_000_000), 10_007_543_430), ((0, 0, 0, 1_799_990_000), 20_014_977_344),
+                            ((-388_974_850, 745_373_330, 268_723_365, -1_239_838_359), 17_836_465_815)):
             self.assertEqual((model.leg(*leg), model.leg(*leg[2:], *leg[:2])), (length, length))
 
     def reads(self, text, buffer, answer, after):

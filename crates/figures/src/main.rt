@@ -104,6 +104,20 @@ fn long_sines() {
     );
 }
 
+fn long_sines_half() {
+    sine(b"long sine of 1 half tick", globe::long_sine_half(1));
+    sine(b"long sine of 2 half ticks", globe::long_sine_half(2));
+    sine(
+        b"long sine of 90 degrees in half ticks",
+        globe::long_sine_half(1_800_000_000),
+    );
+    sine(
+        b"long sine of 90 degrees and a half tick",
+        globe::long_sine_half(1_800_000_001),
+    );
+    sine(b"long sine of -1 half tick", globe::long_sine_half(-1));
+}
+
 fn long_sines_around() {
     sine(b"long sine of 150 degrees", globe::long_sine(1_500_000_000));
     sine(
@@ -257,9 +271,15 @@ fn near_pole(latitude: i32) {
 }
 
 fn short_legs() {
+    length(b"leg to the same point", globe::leg(0, 0, 0, 0));
     length(b"leg of 1 tick north", globe::leg(0, 0, 1, 0));
     length(b"leg of 2 ticks north", globe::leg(0, 0, 2, 0));
     length(b"leg of 3 ticks north", globe::leg(0, 0, 3, 0));
+    length(b"leg of 1 tick east", globe::leg(0, 0, 0, 1));
+    length(
+        b"leg of 1 tick east at 60 N",
+        globe::leg(600_000_000, 0, 600_000_000, 1),
+    );
 }
 
 fn long_legs() {
@@ -268,6 +288,10 @@ fn long_legs() {
         globe::leg(0, 1_799_000_000, 0, -1_799_000_000),
     );
     length(b"leg from pole to pole", globe::leg(NORTH, 0, -NORTH, 0));
+    length(
+        b"leg along a quarter of the equator",
+        globe::leg(0, 0, 0, NORTH),
+    );
     length(
         b"leg on which m is floored first",
         globe::leg(-388_974_850, 745_373_330, 268_723_365, -1_239_838_359),
@@ -389,6 +413,7 @@ fn route_refusals() {
 
 fn main() {
     long_sines();
+    long_sines_half();
     long_sines_around();
     short_sines();
     cylindrical();

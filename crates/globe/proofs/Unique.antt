@@ -7,6 +7,9 @@ use Rattle.globe.proofs as globe
 pub long-sine : One globe.long_sine.ended globe.long_sine.Reads.Asked globe.long_sine.Reads.Learnt
 long-sine = answers (λ κs a v w. refl)
 
+pub long-sine-half : One globe.long_sine_half.ended globe.long_sine_half.Reads.Asked globe.long_sine_half.Reads.Learnt
+long-sine-half = answers (λ κs a v w. refl)
+
 pub short-sine : One globe.short_sine.ended globe.short_sine.Reads.Asked globe.short_sine.Reads.Learnt
 short-sine = answers (λ κs a v w. refl)
 

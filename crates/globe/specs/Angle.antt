@@ -1,10 +1,11 @@
--- The sine of an angle from -180 to 180 degrees, and the cosine of a latitude.
+-- The sine of an angle from -180 to 180 degrees, in half ticks that of one from 0 to 90, and the cosine of a latitude.
 -- Assumes nothing.
 use Prim.Native.Nat.{ℕ, _-_}
+use mathlib.Core.Bool.{Bool, _&&_}
 use lib.IntN.{ℤ, pos, natAbs}
-use lib.Signed.{quotZ}
+use lib.Signed.{leZ, quotZ}
 use Rattle.signed.specs.Sign.{signAs}
-use Rattle.sines.specs.Sine.{quarter, longSine, shortening, shortSine}
+use Rattle.sines.specs.Sine.{quarter, longSine, shortening, shortSine, quarterHalves, longSineHalf}
 use Rattle.globe.specs.declared.Sine.{Sine}
 use Rattle.globe.specs.declared.Sine.the-variants.{Value, Refused}
 use Rattle.refusals.specs.Refusal.{LATITUDE}
@@ -33,3 +34,10 @@ longSineOf a = unless (isAngle a) (Refused LATITUDE) (Value (longAround a))
 
 unfoldable pub shortSineOf : ℤ → Sine
 shortSineOf a = unless (isAngle a) (Refused LATITUDE) (Value (shortAround a))
+
+-- "Long sine is now also given from 0 to 90 degrees in half ticks (6 outside)"
+abbrev pub isHalves : ℤ → Bool
+isHalves a = leZ (pos 0) a && leZ a (pos quarterHalves)
+
+unfoldable pub longSineHalfOf : ℤ → Sine
+longSineHalfOf a = unless (isHalves a) (Refused LATITUDE) (Value (pos (longSineHalf (natAbs a))))

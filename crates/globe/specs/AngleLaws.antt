@@ -6,17 +6,23 @@ use Prim.Native.Nat.{ℕ, zero, suc, _-_, _≤_, _<_}
 use native.Mathlib.Omega.{arith}
 use lib.IntN.{ℤ, pos, negsuc, negℤ, natAbs, negℤ-negℤ}
 use lib.Signed.{ltZ, leZ}
-use borrow.Author.Tests.{ltb-true, lt-ltb, le-leb}
+use borrow.Author.Tests.{ltb-true, lt-ltb, le-leb, leb-true}
 use Rattle.signed.specs.Sides.{neg-above, neg-below}
 use Rattle.signed.specs.Tests.{lt-ltZ}
 use Rattle.signed.specs.SignLaws.{as-size}
 use Rattle.sines.specs.Table.{unit}
-use Rattle.sines.specs.Sine.{quarter, longSine, shortUnit}
+use Rattle.sines.specs.Sine.{quarter, longSine, shortUnit, quarterHalves}
 use Rattle.sines.specs.SineLaws.{longSine-zero, longSine-top, longSine-lt, shortSine-top, shortSine-some}
 use Rattle.refusals.specs.Choice.{answered}
+use Rattle.refusals.specs.Tests.{and-true, clash}
 use Rattle.ticks.specs.Ticks.{isLatitude}
 use Rattle.ticks.specs.TickLaws.{latitude-size}
-use Rattle.globe.specs.Angle.{signedLongSine, shortCosine}
+use Rattle.globe.specs.Angle.{signedLongSine, shortCosine, isHalves}
+
+-- an angle in half ticks from 0 to 90 degrees, by its size
+pub halves-size : (z : ℤ) → isHalves z ≡ true → natAbs z ≤ quarterHalves
+halves-size (pos n) e = leb-true n quarterHalves (and-true (leZ (pos 0) (pos n)) (leZ (pos n) (pos quarterHalves)) e .1)
+halves-size (negsuc n) e = clash e refl
 
 -- a refusal is what is answered
 pub refused : {A : Type 0} (f : ℕ → A) (r : ℕ) (v : A) → (r ≡ 0 → ⊥) → f r ≡ answered r f v

@@ -3,23 +3,22 @@
 use mathlib.Core.Path.{_≡_, refl, ap, _∙_}
 use Prim.Native.Nat.{ℕ, _+_, _*_, _/_, _≤_, _<_}
 use native.Mathlib.Omega.{arith}
-use borrow.Author.Tests.{leb-true, leb-false}
 use lib.IntN.{pos, negℤ}
 use Rattle.sines.specs.Table.{sines, sinesFrom, rounded, sineOfStep, twiceCosine, entry}
-use Rattle.sines.specs.Sine.{step, quarter, sineBy, longSine, shortSine}
-use Rattle.sines.specs.SineLaws.{between, shortSine-le, longSine-zero, longSine-tick, longSine-quarter}
-use Rattle.sines.specs.BackLaws.{LastAngle, greatestAngle-meets}
+use Rattle.sines.specs.Sine.{step, sineBy, longSine, longSineHalf}
+use Rattle.sines.specs.SineLaws.{between, longSine-tick, longSine-quarter, halves, longSineHalf-zero, longSineHalf-quarter, longSineHalf-1}
+use Rattle.sines.specs.BackLaws.{LastAngle}
 use Rattle.sines.specs.Back.{greatestAngle}
-use Rattle.sines.specs.Figures.{long-30, long-tenth, greatest-1, greatest-tenth, greatest-90}
+use Rattle.sines.specs.Figures.{long-30, long-half-tenth, long-half-45, greatest-1, greatest-54, greatest-tenth, greatest-45, greatest-90}
 use Rattle.globe.specs.declared.Place.the-variants.{At}
 use Rattle.globe.specs.declared.Length.the-variants.{Millimetres}
 use Rattle.ticks.specs.Ticks.{offsetOf, folded, pointRefusal}
-use Rattle.globe.specs.Angle.{shortCosine, longSineOf, shortSineOf}
+use Rattle.globe.specs.Angle.{shortCosine, longSineOf, shortSineOf, longSineHalfOf}
 use Rattle.globe.specs.AngleLaws.{cosine-pole}
 use Rattle.globe.specs.Sheet.{cylinder, sinusoid, cylindricalOf, sinusoidalOf, cylindricalBackOf, sinusoidalBackOf}
 use Rattle.globe.specs.SheetLaws.{place-is, there-and-back, cylinder-invertible, back-nobody, back-at, sine-is}
-use Rattle.globe.specs.Leg.{degree, degreeLength, chord, lengthOf, legLength, legOf}
-use Rattle.globe.specs.LegLaws.{root-is, angle-zero}
+use Rattle.globe.specs.Leg.{degree, degreeLength, legCosine, lengthOf, legLength, legOf}
+use Rattle.globe.specs.LegLaws.{root-is, same-point, north-exact}
 use Rattle.globe.specs.Paper.{sinePaper, placePaper, pointPaper, lengthPaper}
 
 -- ---- sines
@@ -46,6 +45,14 @@ pub long-round : (sinePaper (longSineOf (pos 1_799_999_999)) ≡ record { refusa
 unfolding longSineOf folded
 long-round =
     (ap (λ (n : ℕ). record { refusal = 0; value = pos n }) longSine-tick, ap (λ (n : ℕ). record { refusal = 0; value = negℤ (pos n) }) long-30, refl, refl)
+
+-- half a tick, a tick, and what lies outside
+pub half : (sinePaper (longSineHalfOf (pos 1)) ≡ record { refusal = 0; value = pos 8_726 })
+    × (sinePaper (longSineHalfOf (pos 2)) ≡ record { refusal = 0; value = pos 17_453 })
+    × (sinePaper (longSineHalfOf (negℤ (pos 1))) ≡ record { refusal = 6; value = pos 0 })
+    × (sinePaper (longSineHalfOf (pos 1_800_000_001)) ≡ record { refusal = 6; value = pos 0 })
+unfolding longSineHalfOf
+half = (rw longSineHalf-1, rw (halves 1, longSine-tick), refl, refl)
 
 -- ---- the cylindrical sheet, with meridian 0
 
@@ -101,77 +108,67 @@ sinusoidal-back-beside-pole =
 
 -- of a chord n, by the greatest angle of its root
 length-at : (n r : ℕ) {h u : ℕ} → h ≡ n → r * r ≤ n → n < (r + 1) * (r + 1) → greatestAngle r ≡ u
-    → lengthPaper (Millimetres (lengthOf h)) ≡ record { refusal = 0; millimetres = 2 * u * degreeLength / degree }
+    → lengthPaper (Millimetres (lengthOf h)) ≡ record { refusal = 0; millimetres = u * degreeLength / degree }
 length-at n r {h} e l k g = rw (← root-is {h = h} {r = r} (omega arith) (omega arith), g)
 
 -- of a chord that is a square
-length-by : (r : ℕ) {h u : ℕ} → h ≡ r * r → greatestAngle r ≡ u → lengthPaper (Millimetres (lengthOf h)) ≡ record { refusal = 0; millimetres = 2 * u * degreeLength / degree }
+length-by : (r : ℕ) {h u : ℕ} → h ≡ r * r → greatestAngle r ≡ u → lengthPaper (Millimetres (lengthOf h)) ≡ record { refusal = 0; millimetres = u * degreeLength / degree }
 length-by r e g = length-at (r * r) r e (omega arith) (omega arith) g
 
--- along a meridian
-north-by : (m p : ℕ) → chord m p 0 ≡ shortSine p * shortSine p
-north-by m p = rw longSine-zero (omega arith)
+-- "One tick north is then 11 mm, two are 22, and equal points 0."
+pub length-1-north : lengthPaper (legOf (pos 0) (pos 0) (pos 1) (pos 0)) ≡ record { refusal = 0; millimetres = 11 }
+unfolding legOf pointRefusal
+length-1-north = rw (north-exact (pos 0) (pos 0) (pos 1) (omega arith))
 
--- "length from 0,0 to 1 tick north: 0"
-pub length-1-north : lengthPaper (legOf (pos 0) (pos 0) (pos 1) (pos 0)) ≡ record { refusal = 0; millimetres = 0 }
-unfolding legOf legLength pointRefusal
-length-1-north = length-by 0 (north-by _ 0 ∙ rw longSine-zero) angle-zero
-
--- "to 2 ticks north: 22"
 pub length-2-north : lengthPaper (legOf (pos 0) (pos 0) (pos 2) (pos 0)) ≡ record { refusal = 0; millimetres = 22 }
-unfolding legOf legLength pointRefusal
-length-2-north = length-by 1 (north-by _ 1 ∙ rw longSine-tick) greatest-1
+unfolding legOf pointRefusal
+length-2-north = rw (north-exact (pos 0) (pos 0) (pos 2) (omega arith))
+
+pub length-equal : lengthPaper (legOf (pos 0) (pos 0) (pos 0) (pos 0)) ≡ record { refusal = 0; millimetres = 0 }
+unfolding legOf pointRefusal
+length-equal = rw (same-point (pos 0) (pos 0))
+
+-- and one tick east on the equator
+pub length-1-east : lengthPaper (legOf (pos 0) (pos 0) (pos 0) (pos 1)) ≡ record { refusal = 0; millimetres = 11 }
+unfolding legOf legLength pointRefusal legCosine
+length-1-east = length-by 1 (rw (longSineHalf-zero, longSine-quarter, longSineHalf-1)) greatest-1
 
 -- "0, 179.9° E to 0, 179.9° W: 22,238,985"
 pub length-across-180 : lengthPaper (legOf (pos 0) (pos 1_799_000_000) (pos 0) (negℤ (pos 1_799_000_000))) ≡ record { refusal = 0; millimetres = 22_238_985 }
-unfolding legOf legLength pointRefusal shortCosine
-length-across-180 = length-by 1_745_328 (rw (longSine-zero, longSine-quarter, long-tenth)) greatest-tenth
+unfolding legOf legLength pointRefusal legCosine
+length-across-180 = length-by 3_490_656 (rw (longSineHalf-zero, longSine-quarter, long-half-tenth)) greatest-tenth
 
 -- "pole to pole: 20,015,086,860"
 pub length-pole-to-pole : lengthPaper (legOf (pos 900_000_000) (pos 0) (negℤ (pos 900_000_000)) (pos 0)) ≡ record { refusal = 0; millimetres = 20_015_086_860 }
 unfolding legOf legLength pointRefusal
-length-pole-to-pole = length-by 1_000_000_000 (north-by _ quarter ∙ rw longSine-quarter) greatest-90
+length-pole-to-pole = length-by 2_000_000_000 (rw (longSineHalf-zero, longSineHalf-quarter) (omega arith)) greatest-90
+
+-- a quarter of the equator, as `routereport` has it: "length 10007543430"
+pub length-quarter : lengthPaper (legOf (pos 0) (pos 0) (pos 0) (pos 900_000_000)) ≡ record { refusal = 0; millimetres = 10_007_543_430 }
+unfolding legOf legLength pointRefusal legCosine
+length-quarter = length-by 1_414_213_562 (rw (longSineHalf-zero, longSine-quarter, long-half-45)) greatest-45
 
 -- ---- a leg on which every rule tells
 
--- Not the document's: worked out from its words by another program. The table's first rows give all its sines.
-long-19 : longSine 19 ≡ 331_612
-unfolding sineBy between entry sines sinesFrom rounded sineOfStep twiceCosine
-long-19 = refl
+-- Not the document's: worked out from its words by another program. The table's first row gives all its sines.
+long-46846 : longSine 46_846 ≡ 817_616_924
+unfolding sineBy entry sines sinesFrom rounded sineOfStep twiceCosine
+long-46846 = refl
 
-long-108 : longSine 108 ≡ 1_884_955
-unfolding sineBy between entry sines sinesFrom rounded sineOfStep twiceCosine
-long-108 = refl
+long-46863 : longSine 46_863 ≡ 817_913_630
+unfolding sineBy entry sines sinesFrom rounded sineOfStep twiceCosine
+long-46863 = refl
 
-long-109 : longSine 109 ≡ 1_902_408
-unfolding sineBy between entry sines sinesFrom rounded sineOfStep twiceCosine
-long-109 = refl
+long-half-17 : longSineHalf 17 ≡ 148_352
+unfolding sineBy entry sines sinesFrom rounded sineOfStep twiceCosine
+long-half-17 = refl
 
-long-81622 : longSine 81_622 ≡ 1_424_572_613
-unfolding sineBy between entry sines sinesFrom rounded sineOfStep twiceCosine
-long-81622 = refl
+long-half-332097 : longSineHalf 332_097 ≡ 2_898_092_984
+unfolding sineBy entry sines sinesFrom rounded sineOfStep twiceCosine
+long-half-332097 = refl
 
-long-81661 : longSine 81_661 ≡ 1_425_253_291
-unfolding sineBy between entry sines sinesFrom rounded sineOfStep twiceCosine
-long-81661 = refl
-
-long-758071 : longSine 758_071 ≡ 13_230_830_926
-unfolding sineBy between entry sines sinesFrom rounded sineOfStep twiceCosine
-long-758071 = refl
-
-greatest-189 : greatestAngle 189 ≡ 108
-greatest-189 = omega (arith, less, more)
-  where
-    less : greatestAngle 189 < 108 → ⊥
-    less l = omega (arith, long-108, leb-false (shortSine 108) 189 (greatestAngle-meets 189 .later 108 l (omega arith)))
-
-    more : 108 < greatestAngle 189 → ⊥
-    more l =
-        let g = greatestAngle-meets 189 in
-        omega (arith, long-109, leb-true (shortSine (greatestAngle 189)) 189 (g .holds), shortSine-le {a = 109} l (g .inside))
-
--- p is 19 and a half, q 758,071 and a half, m 20.3, H 36,099.97 (the next number is a square) and the length 2,401.81. Rounded up, each of the first four gives
--- another length, and so do the length rounded up, the next root, the next angle and the long way round.
-pub length-drops : lengthPaper (legOf (pos 899_918_378) (pos 1_799_450_233) (pos 899_918_339) (negℤ (pos 1_799_033_624))) ≡ record { refusal = 0; millimetres = 2_401 }
-unfolding legOf legLength pointRefusal shortCosine
-length-drops = length-at 36_099 189 (rw (long-81622, long-81661, long-19, long-758071)) (omega arith) (omega arith) greatest-189
+-- p is 17 half ticks, q 332,097, m 13.37, H 3,024.72 (the next number is a square) and the length 344.70. Rounded up, m, H and the length give another length each, and so do the
+-- next root, the next angle, a half dropped from p and the long way round.
+pub length-drops : lengthPaper (legOf (pos 899_953_154) (pos 1_799_900_000) (pos 899_953_137) (negℤ (pos 1_799_767_903))) ≡ record { refusal = 0; millimetres = 344 }
+unfolding legOf legLength pointRefusal legCosine
+length-drops = length-at 3_024 54 (rw (long-46846, long-46863, long-half-17, long-half-332097)) (omega arith) (omega arith) greatest-54

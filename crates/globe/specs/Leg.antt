@@ -3,26 +3,33 @@
 use Prim.Native.Nat.{ℕ, _+_, _-_, _*_, _/_, min}
 use lib.Dec.{leb}
 use lib.IntN.{ℤ, natAbs, _-ℤ_}
-use Rattle.sines.specs.Sine.{shortSine, shortUnit}
+use Rattle.sines.specs.Sine.{quarter, longSine, legShortening, legUnit, legSine}
 use Rattle.sines.specs.Greatest.{greatest}
 use Rattle.sines.specs.Back.{greatestAngle}
 use Rattle.globe.specs.declared.Length.{Length}
 use Rattle.globe.specs.declared.Length.the-variants.{Millimetres, Refused}
 use Rattle.refusals.specs.Choice.{firstOf, answered}
 use Rattle.ticks.specs.Ticks.{fullTurn, pointRefusal}
-use Rattle.globe.specs.Angle.{shortCosine}
 
--- "half the size of the latitude difference, dropping a half"
+-- p, "half the size of the latitude difference": "Length uses whole differences as half-tick counts."
 abbrev pub halfNorth : ℤ → ℤ → ℕ
-halfNorth lat lat′ = natAbs (lat -ℤ lat′) / 2
+halfNorth lat lat′ = natAbs (lat -ℤ lat′)
 
--- "half of the smaller of d and 3,600,000,000 - d, dropping a half, where d is the size of the longitude difference"
+-- q, "half of the smaller of d and 3,600,000,000 - d .., where d is the size of the longitude difference"
 abbrev pub halfEast : ℤ → ℤ → ℕ
-halfEast lon lon′ = min (natAbs (lon -ℤ lon′)) (fullTurn - natAbs (lon -ℤ lon′)) / 2
+halfEast lon lon′ = min (natAbs (lon -ℤ lon′)) (fullTurn - natAbs (lon -ℤ lon′))
+
+-- "the sine, long or short, of 90 degrees less its size": "In the length rule alone, short sines and cosines are the long ones divided by 5,000"
+unfoldable pub legCosine : ℤ → ℕ
+legCosine lat = longSine (quarter - natAbs lat) / legShortening
+
+-- m, "the product of the two short cosines divided by 10^9, floored", where "2×10^9 stands for 10^9 in both divisions"
+abbrev pub cosines : ℤ → ℤ → ℕ
+cosines lat lat′ = legCosine lat * legCosine lat′ / legUnit
 
 -- "H = (short sine of p)² + floor(m × (short sine of q)² / 10^9)"
 abbrev pub chord : ℕ → ℕ → ℕ → ℕ
-chord m p q = shortSine p * shortSine p + m * (shortSine q * shortSine q) / shortUnit
+chord m p q = legSine p * legSine p + m * (legSine q * legSine q) / legUnit
 
 -- "the greatest whole number whose square is at most H"
 unfoldable pub rootOf : ℕ → ℕ
@@ -35,13 +42,12 @@ degree = 10_000_000
 abbrev pub degreeLength : ℕ
 degreeLength = 111_194_927
 
--- "Let u be the greatest angle from 0 to 90 degrees whose short sine is at most r. The arc is 2u ticks."
+-- "Let u be the greatest angle from 0 to 90 degrees whose short sine is at most r.": "The u is sought in half ticks, and the arc is u ticks."
 abbrev pub lengthOf : ℕ → ℕ
-lengthOf h = 2 * greatestAngle (rootOf h) * degreeLength / degree
+lengthOf h = greatestAngle (rootOf h) * degreeLength / degree
 
--- m is "the product of the two short cosines divided by 10^9, floored"
 unfoldable pub legLength : ℤ → ℤ → ℤ → ℤ → ℕ
-legLength lat lon lat′ lon′ = lengthOf (chord (shortCosine lat * shortCosine lat′ / shortUnit) (halfNorth lat lat′) (halfEast lon lon′))
+legLength lat lon lat′ lon′ = lengthOf (chord (cosines lat lat′) (halfNorth lat lat′) (halfEast lon lon′))
 
 -- "6 and 7 of the first point, then of the second"
 abbrev pub endsRefusal : ℤ → ℤ → ℤ → ℤ → ℕ

@@ -1,5 +1,5 @@
--- Laws of a leg: the root, the product that is exact before its division, what bounds each part, and three theorems about a
--- leg's length: it is the same both ways, 0 from a point to itself, and at most half a turn's.
+-- Laws of a leg: the root, the product that is exact before its division, what bounds each part, and theorems about a leg's length: it is the same both
+-- ways, exact along a meridian up to 110 degrees, so 0 from a point to itself, not 0 where the latitudes differ, and at most half a turn's.
 -- Assumes nothing.
 use mathlib.Core.Path.{_≡_, sym, ap, _∙_}
 use mathlib.Core.Bool.{true}
@@ -15,17 +15,15 @@ use mir.Val.{SFits, toZ, ofZ}
 use mir.Facts.{toZ-ofZ}
 use Rattle.signed.specs.Sides.{above, below, one-side, sub-sides, size-sides}
 use Rattle.signed.specs.Machine.{at64, sub-fits}
-use Rattle.sines.specs.Sine.{quarter, shortUnit, shortSine}
-use Rattle.sines.specs.SineLaws.{longSine-zero, shortSine-top, shortSine-some}
+use Rattle.sines.specs.Sine.{quarter, quarterHalves, legUnit, legSine}
+use Rattle.sines.specs.SineLaws.{longSine-top, longSineHalf-zero, longSineHalf-1, legSine-top, legSine-some}
 use Rattle.sines.specs.Greatest.{IsGreatest}
 use Rattle.sines.specs.GreatestLaws.{greatest-is, greatest-meets}
 use Rattle.sines.specs.Back.{greatestAngle}
-use Rattle.sines.specs.BackLaws.{greatestAngle-meets}
+use Rattle.sines.specs.BackLaws.{greatestAngle-meets, greatest-own}
 use Rattle.ticks.specs.Ticks.{fullTurn, isLatitude, isLongitude, turned, offsetOf}
 use Rattle.ticks.specs.TickLaws.{turned-how, latitude, longitude, is-longitude, offset-longitude}
-use Rattle.globe.specs.Angle.{shortCosine}
-use Rattle.globe.specs.AngleLaws.{cosine-top}
-use Rattle.globe.specs.Leg.{halfNorth, halfEast, chord, rootOf, lengthOf, legLength}
+use Rattle.globe.specs.Leg.{halfNorth, halfEast, legCosine, cosines, chord, rootOf, degree, degreeLength, lengthOf, legLength}
 
 -- ---- the root
 
@@ -84,29 +82,33 @@ pub read-apart : {a b : ℤ} → SFits w32 a → SFits w32 b
     → toZ w64 (ofZ w64 (toZ w64 (ofZ w64 (toZ w32 (ofZ w32 a))) -ℤ toZ w64 (ofZ w64 (toZ w32 (ofZ w32 b))))) ≡ a -ℤ b
 read-apart f g = rw (at64 f, at64 g) (toZ-ofZ (sub-fits f g))
 
-pub north-top : (lat lat′ : ℤ) → isLatitude lat ≡ true → isLatitude lat′ ≡ true → halfNorth lat lat′ ≤ quarter
+pub north-top : (lat lat′ : ℤ) → isLatitude lat ≡ true → isLatitude lat′ ≡ true → halfNorth lat lat′ ≤ quarterHalves
 north-top a b p q = omega (arith, latitude a p, latitude b q, sub-sides a b, size-sides (a -ℤ b), one-side (a -ℤ b))
 
 pub east-apart : (lon lon′ : ℤ) → isLongitude lon ≡ true → isLongitude lon′ ≡ true → natAbs (lon -ℤ lon′) < fullTurn
 east-apart a b p q = omega (arith, longitude a p, longitude b q, sub-sides a b, size-sides (a -ℤ b), one-side (a -ℤ b))
 
-pub east-top : (lon lon′ : ℤ) → halfEast lon lon′ ≤ quarter
+pub east-top : (lon lon′ : ℤ) → halfEast lon lon′ ≤ quarterHalves
 east-top a b = omega arith
 
-pub product-top : (lat lat′ : ℤ) → shortCosine lat * shortCosine lat′ ≤ shortUnit * shortUnit
+cosine-top : (lat : ℤ) → legCosine lat ≤ legUnit
+unfolding legCosine
+cosine-top lat = omega (arith, longSine-top {a = quarter - natAbs lat} (omega arith))
+
+pub product-top : (lat lat′ : ℤ) → legCosine lat * legCosine lat′ ≤ legUnit * legUnit
 product-top a b = mul-le-mul (cosine-top a) (cosine-top b)
 
-pub square-top : {a : ℕ} → a ≤ quarter → shortSine a * shortSine a ≤ shortUnit * shortUnit
-square-top h = mul-le-mul (shortSine-top h) (shortSine-top h)
+pub square-top : {a : ℕ} → a ≤ quarterHalves → legSine a * legSine a ≤ legUnit * legUnit
+square-top h = mul-le-mul (legSine-top h) (legSine-top h)
 
--- two squares of a short sine of 1
+-- two squares of a sine of 1
 abbrev pub greatestChord : ℕ
-greatestChord = 2 * shortUnit * shortUnit
+greatestChord = 2 * legUnit * legUnit
 
-pub chord-top : (m p q : ℕ) → m ≤ shortUnit → p ≤ quarter → q ≤ quarter → chord m p q ≤ greatestChord
+pub chord-top : (m p q : ℕ) → m ≤ legUnit → p ≤ quarterHalves → q ≤ quarterHalves → chord m p q ≤ greatestChord
 chord-top m p q h k l = omega (arith, square-top k, whole {m = m} (omega arith) h (square-top l))
 
--- ---- three theorems
+-- ---- theorems
 
 -- a leg is as long one way as the other
 swap : (a b : ℤ) → natAbs (a -ℤ b) ≡ natAbs (b -ℤ a)
@@ -115,27 +117,41 @@ swap a b =
 
 pub both-ways : (lat lon lat′ lon′ : ℤ) → legLength lat lon lat′ lon′ ≡ legLength lat′ lon′ lat lon
 unfolding legLength
-both-ways lat lon lat′ lon′ = cc (swap lat lat′, swap lon lon′, mul-comm (shortCosine lat) (shortCosine lat′))
+both-ways lat lon lat′ lon′ = cc (swap lat lat′, swap lon lon′, mul-comm (legCosine lat) (legCosine lat′))
 
--- a leg from a point to itself has no length
+-- along a meridian, up to 110 degrees, a leg has as many ticks as its latitudes lie apart
 none : (a : ℤ) → natAbs (a -ℤ a) ≡ 0
 none a = omega (arith, size-sides (a -ℤ a), sub-sides a a, one-side (a -ℤ a))
 
-pub angle-zero : greatestAngle 0 ≡ 0
-angle-zero = omega (arith, past)
-  where
-    past : 0 < greatestAngle 0 → ⊥
-    past l =
-        let g = greatestAngle-meets 0 in
-        omega (arith, leb-true (shortSine (greatestAngle 0)) 0 (g .holds), shortSine-some l (g .inside))
-
-pub same-point : (lat lon : ℤ) → legLength lat lon lat lon ≡ 0
+pub north-exact : (lat lon lat′ : ℤ) → natAbs (lat -ℤ lat′) ≤ 1_100_000_000 → legLength lat lon lat′ lon ≡ natAbs (lat -ℤ lat′) * degreeLength / degree
 unfolding legLength
-same-point lat lon =
-    let m = shortCosine lat * shortCosine lat / shortUnit in
-    let c : chord m 0 0 ≡ 0 = rw longSine-zero (omega arith) in
-    let r : rootOf 0 ≡ 0 = sym (root-is {h = 0} {r = 0} (omega arith) (omega arith)) in
-    rw (none lat, none lon) (rw (c, r, angle-zero))
+north-exact lat lon lat′ h =
+    let p = halfNorth lat lat′ in
+    let c : chord (cosines lat lat′) p 0 ≡ legSine p * legSine p = rw longSineHalf-zero (omega arith) in
+    let r : rootOf (legSine p * legSine p) ≡ legSine p = sym (root-is (omega arith) (omega arith)) in
+    rw (none lon, c, r, greatest-own h)
+
+-- from a point to itself none
+pub same-point : (lat lon : ℤ) → legLength lat lon lat lon ≡ 0
+same-point lat lon = north-exact lat lon lat (omega (arith, none lat)) ∙ rw (none lat)
+
+-- where the latitudes differ, by a tick or more, a leg has a length, since u is 1 or more
+some : (r : ℕ) → 0 < r → 0 < greatestAngle r
+some r h = omega (arith, none-yet)
+  where
+    none-yet : greatestAngle r ≡ 0 → ⊥
+    none-yet e = omega (arith, longSineHalf-1, leb-false (legSine 1) r (greatestAngle-meets r .later 1 (omega arith) (omega arith)))
+
+pub north-some : (lat lon lat′ lon′ : ℤ) → isLatitude lat ≡ true → isLatitude lat′ ≡ true → 0 < natAbs (lat -ℤ lat′) → 11 ≤ legLength lat lon lat′ lon′
+unfolding legLength
+north-some lat lon lat′ lon′ p q n =
+    let h = chord (cosines lat lat′) (halfNorth lat lat′) (halfEast lon lon′) in
+    let s = legSine-some n (north-top lat lat′ p q) in
+    let k : 1 ≤ h = omega (arith, mul-le-mul s s) in
+    omega (arith, some (rootOf h) (omega (arith, off-zero h k)))
+  where
+    off-zero : (h : ℕ) → 1 ≤ h → rootOf h ≡ 0 → ⊥
+    off-zero h k e = omega (arith, rw e at (root-high h))
 
 -- no leg is longer than half a turn
 abbrev pub longestLeg : ℕ
@@ -144,7 +160,7 @@ longestLeg = 20_015_086_860
 pub longest : (lat lon lat′ lon′ : ℤ) → legLength lat lon lat′ lon′ ≤ longestLeg
 unfolding legLength
 longest lat lon lat′ lon′ =
-    omega (arith, greatestAngle-meets (rootOf (chord (shortCosine lat * shortCosine lat′ / shortUnit) (halfNorth lat lat′) (halfEast lon lon′))) .inside)
+    omega (arith, greatestAngle-meets (rootOf (chord (cosines lat lat′) (halfNorth lat lat′) (halfEast lon lon′))) .inside)
 
 -- ---- longitudes counted from another meridian
 
@@ -174,9 +190,9 @@ module _ (lon lon′ meridian : ℤ) (p : isLongitude lon ≡ true) (q : isLongi
       let e : above (o -ℤ o′) + below (lon -ℤ lon′) + 2 * fullTurn ≡ above (lon -ℤ lon′) + below (o -ℤ o′) + j * fullTurn
       = omega (arith, t .few, t′ .few, t .apart, t′ .apart, sub-sides lon meridian, sub-sides lon′ meridian, sub-sides lon lon′, sub-sides o o′) in
       let far = east-apart (offsetOf lon meridian) (offsetOf lon′ meridian) (is-longitude o (offset-longitude lon meridian p m)) (is-longitude o′ (offset-longitude lon′ meridian q m)) in
-      ap (λ (n : ℕ). n / 2) (east-turned (lon -ℤ lon′) (o -ℤ o′) j e (east-apart lon lon′ p q) far)
+      east-turned (lon -ℤ lon′) (o -ℤ o′) j e (east-apart lon lon′ p q) far
 
 pub offset-length : (lat lon lat′ lon′ meridian : ℤ) → isLongitude lon ≡ true → isLongitude lon′ ≡ true → isLongitude meridian ≡ true
     → legLength lat (offsetOf lon meridian) lat′ (offsetOf lon′ meridian) ≡ legLength lat lon lat′ lon′
 unfolding legLength
-offset-length lat lon lat′ lon′ meridian p q m = ap (λ (e : ℕ). lengthOf (chord (shortCosine lat * shortCosine lat′ / shortUnit) (halfNorth lat lat′) e)) (east-from lon lon′ meridian p q m)
+offset-length lat lon lat′ lon′ meridian p q m = ap (λ (e : ℕ). lengthOf (chord (cosines lat lat′) (halfNorth lat lat′) e)) (east-from lon lon′ meridian p q m)

@@ -1,12 +1,12 @@
 -- What is promised of sines, places and lengths, in the paper's own numbers. Demand 3 stands in SheetLaws.
 -- Assumes nothing.
-use mathlib.Core.Path.{_≡_, refl, sym, ap, ap₂, _∙_}
+use mathlib.Core.Path.{_≡_, refl, sym, ap, _∙_}
 use mathlib.Core.Bool.{true, false}
 use mathlib.Core.List.{List, [], _++_}
 use Prim.Native.Nat.{ℕ, zero, suc, _+_, _-_, _*_, _/_, _≤_, _<_, min}
-use native.Mathlib.Nat.{zero-div}
+use native.Mathlib.Nat.{zero-div, div-mul-le-self, lt-div-mul-add}
 use native.Mathlib.Omega.{arith}
-use borrow.Author.Tests.{leb-true, leb-false}
+use borrow.Author.Tests.{le-leb, lt-leb, lt-ltb, leb-true, leb-false}
 use lib.IntN.{ℤ, pos, negsuc, negℤ, natAbs, _-ℤ_, _*ℤ_, negℤ-negℤ}
 use lib.ListN.{length}
 use lib.Signed.{ltZ, leZ, quotZ}
@@ -17,8 +17,8 @@ use Rattle.signed.specs.Sides.{quot-neg}
 use Rattle.signed.specs.Sign.{signAs}
 use Rattle.sines.specs.Table.{entry}
 use Rattle.sines.specs.Rules.{growth, last}
-use Rattle.sines.specs.Sine.{quarter, shortening, shortUnit, shortSine}
-use Rattle.sines.specs.SineLaws.{between, a-step, in-row, longSine-zero, longSine-quarter}
+use Rattle.sines.specs.Sine.{quarter, sineBy, longSine, shortening, shortSine, quarterHalves, longSineHalf, legSine}
+use Rattle.sines.specs.SineLaws.{between, a-step, in-row, longSine-zero, longSine-quarter, some-halves, halves, longSineHalf-lt, longSineHalf-quarter}
 use Rattle.sines.specs.Back.{greatestAngle}
 use Rattle.sines.specs.BackLaws.{greatestAngle-meets}
 use Rattle.ticks.specs.Ticks.{isLatitude, isLongitude, isAngle, folded, accepted, offsetOf, pointRefusal, sheetRefusal}
@@ -35,11 +35,11 @@ use Rattle.globe.specs.declared.Point.the-variants as Q
 use Rattle.globe.specs.declared.Length.{Length}
 use Rattle.globe.specs.declared.Length.the-variants as L
 use Rattle.globe.specs.declared.LengthOut.{LengthOut}
-use Rattle.globe.specs.Angle.{signedLongSine, shortCosine, longAround, shortAround, longSineOf, shortSineOf}
+use Rattle.globe.specs.Angle.{signedLongSine, shortCosine, longAround, shortAround, longSineOf, shortSineOf, isHalves, longSineHalfOf}
 use Rattle.globe.specs.AngleLaws as A
 use Rattle.globe.specs.Sheet.{Sheet, cylinder, sinusoid, placeOf, cylindricalOf, sinusoidalOf}
 use Rattle.globe.specs.SheetLaws.{place-is, times-one}
-use Rattle.globe.specs.Leg.{halfNorth, halfEast, chord, rootOf, legLength, legOf}
+use Rattle.globe.specs.Leg.{halfNorth, halfEast, legCosine, cosines, chord, rootOf, legLength, legOf}
 use Rattle.globe.specs.LegLaws as G
 use Rattle.globe.specs.Measure.{legInto, lengthUpTo, measureOf}
 use Rattle.globe.specs.MeasureLaws.{length-longest, accepted-measured, count-next, part-next, length-next, leg-next}
@@ -124,17 +124,23 @@ long-180 =
     let none = ap (λ (n : ℕ). aSine (pos n)) longSine-zero in
     (long-is (pos 1_800_000_000) refl ∙ none, long-is (negℤ (pos 1_800_000_000)) refl ∙ none)
 
--- "entry k plus the floor of f × (entry k+1 - entry k) / 200,000", without a division or a difference
-pub long-between : (k f : ℕ) → k < 4_500 → f < 200_000 → let s = sinePaper (longSineOf (pos (k * 200_000 + f))) in let v = natAbs (s .value) in
-    (s .value ≡ pos v)
-    × (200_000 * v + f * entry k ≤ 200_000 * entry k + f * entry (k + 1))
-    × (200_000 * entry k + f * entry (k + 1) < 200_000 * v + 200_000 + f * entry k)
+-- "entry k plus the floor of f × (entry k+1 - entry k) / 200,000", without a division or a difference, for any number s of units from one entry to the next
+abbrev Between : ℕ → ℕ → ℕ → ℕ → Type 0
+Between s k f v = (s * v + f * entry k ≤ s * entry k + f * entry (k + 1)) × (s * entry k + f * entry (k + 1) < s * v + s + f * entry k)
+
+sine-between : {s k f : ℕ} → 0 < s → k < 4_500 → f < s → Between s k f (sineBy s (k * s + f))
 unfolding between
-long-between k f h l =
+sine-between {s} {k} {f} p h l =
     let gap = entry (k + 1) - entry k in
     let g : entry (k + 1) ≡ entry k + gap = omega (arith, growth k h) in
     let e = ap (λ (n : ℕ). f * n) g in
-    rw (long-as-before (pos (k * 200_000 + f)) (size-latitude (pos (k * 200_000 + f)) (omega arith)), in-row a-step k l) (refl, omega arith, omega arith)
+    let low = div-mul-le-self (f * gap) s in
+    let high = lt-div-mul-add {a = f * gap} {b = s} p in
+    rw (in-row p k l) (omega arith, omega arith)
+
+pub long-between : (k f : ℕ) → k < 4_500 → f < 200_000 → let s = sinePaper (longSineOf (pos (k * 200_000 + f))) in let v = natAbs (s .value) in
+    (s .value ≡ pos v) × Between 200_000 k f v
+long-between k f h l = rw (long-as-before (pos (k * 200_000 + f)) (size-latitude (pos (k * 200_000 + f)) (omega arith))) (refl, sine-between a-step h l)
 
 -- "at 90 degrees the last entry"
 pub long-90 : sinePaper (longSineOf (pos 900_000_000)) ≡ record { refusal = 0; value = pos (entry 4_500) }
@@ -178,6 +184,45 @@ short-drops a = of-long a ∙ by-size (sinePaper (longSineOf a) .value)
     by-size (pos n) = refl
     by-size (negsuc n) = refl
 
+-- ---- long sines in half ticks
+
+-- "from 0 to 90 degrees in half ticks (6 outside)"
+pub half-refused : (a : ℤ) → isHalves a ≡ false → sinePaper (longSineHalfOf a) ≡ noSine LATITUDE
+unfolding longSineHalfOf
+half-refused a h = rw h
+
+half-is : (a : ℕ) → a ≤ 1_800_000_000 → sinePaper (longSineHalfOf (pos a)) ≡ aSine (pos (longSineHalf a))
+unfolding longSineHalfOf
+half-is a h = rw (le-leb 0 a (omega arith), le-leb a 1_800_000_000 h)
+
+pub half-accepted : (a : ℕ) → a ≤ 1_800_000_000 → sinePaper (longSineHalfOf (pos a)) .refusal ≡ 0
+half-accepted a h = rw (half-is a h)
+
+pub half-below-0 : (n : ℕ) → sinePaper (longSineHalfOf (negsuc n)) ≡ noSine LATITUDE
+half-below-0 n = half-refused (negsuc n) refl
+
+pub half-past-90 : (a : ℕ) → 1_800_000_000 < a → sinePaper (longSineHalfOf (pos a)) ≡ noSine LATITUDE
+half-past-90 a h = half-refused (pos a) (rw (le-leb 0 a (omega arith)) (lt-leb a 1_800_000_000 h))
+
+-- two half ticks are a tick
+pub half-of-tick : (a : ℕ) → a ≤ 900_000_000 → sinePaper (longSineHalfOf (pos (2 * a))) ≡ sinePaper (longSineOf (pos a))
+half-of-tick a h =
+    half-is (2 * a) (omega arith)
+    ∙ ap (λ (n : ℕ). aSine (pos n)) (halves a)
+    ∙ sym (long-as-before (pos a) (size-latitude (pos a) h))
+
+-- "with step 400,000 and the same table"
+pub half-between : (k f : ℕ) → k < 4_500 → f < 400_000 → let s = sinePaper (longSineHalfOf (pos (k * 400_000 + f))) in let v = natAbs (s .value) in
+    (s .value ≡ pos v) × Between 400_000 k f v
+half-between k f h l = rw (half-is (k * 400_000 + f) (omega arith)) (refl, sine-between some-halves h l)
+
+-- it is strictly increasing over half ticks too
+pub half-rising : (a b : ℕ) → a < b → b ≤ 1_800_000_000 → ltZ (sinePaper (longSineHalfOf (pos a)) .value) (sinePaper (longSineHalfOf (pos b)) .value) ≡ true
+half-rising a b h l = rw (half-is a (omega arith), half-is b l) (lt-ltb _ _ (longSineHalf-lt h l))
+
+pub half-90 : sinePaper (longSineHalfOf (pos 1_800_000_000)) ≡ record { refusal = 0; value = pos (entry 4_500) }
+half-90 = half-is 1_800_000_000 (omega arith) ∙ rw (longSineHalf-quarter, last)
+
 -- ---- places
 
 -- the short sine that is answered for an angle from 0 to 90 degrees
@@ -190,19 +235,6 @@ shortAt-is a h = ap (λ (s : SineOut). s .value) (short-as-before (pos a) (size-
 cosine-is : (lat : ℤ) → shortAt (quarter - natAbs lat) ≡ pos (shortCosine lat)
 unfolding shortCosine
 cosine-is lat = shortAt-is (quarter - natAbs lat) (omega arith)
-
--- as a natural number, and the short cosine of a latitude
-abbrev sineAt : ℕ → ℕ
-sineAt a = natAbs (shortAt a)
-
-abbrev cosineAt : ℤ → ℕ
-cosineAt lat = sineAt (quarter - natAbs lat)
-
-sineAt-is : (a : ℕ) → a ≤ quarter → sineAt a ≡ shortSine a
-sineAt-is a h = ap natAbs (shortAt-is a h)
-
-cosineAt-is : (lat : ℤ) → cosineAt lat ≡ shortCosine lat
-cosineAt-is lat = ap natAbs (cosine-is lat)
 
 -- "The short cosine is at least 1 everywhere off the poles."
 pub cosine-off-poles : (lat : ℤ) → natAbs lat < quarter → leZ (pos 1) (shortAt (quarter - natAbs lat)) ≡ true
@@ -283,65 +315,100 @@ both-ways lat lon lat′ lon′ p q = rw (leg-is lat lon lat′ lon′ p q, leg-
 pub same-point : (lat lon : ℤ) → accepted lat lon ≡ true → lengthPaper (legOf lat lon lat lon) ≡ record { refusal = 0; millimetres = 0 }
 same-point lat lon p = rw (leg-is lat lon lat lon p p, G.same-point lat lon)
 
+-- where the latitudes differ a leg has at least 11 mm: so "a leg of at least one tick along a meridian is never 0"
+pub north-some : (lat lon lat′ lon′ : ℤ) → accepted lat lon ≡ true → accepted lat′ lon′ ≡ true → 0 < natAbs (lat -ℤ lat′)
+    → 11 ≤ lengthPaper (legOf lat lon lat′ lon′) .millimetres
+north-some lat lon lat′ lon′ a b n =
+    rw (leg-is lat lon lat′ lon′ a b)
+    (G.north-some lat lon lat′ lon′ (and-true (isLatitude lat) (isLongitude lon) a .0) (and-true (isLatitude lat′) (isLongitude lon′) b .0) n)
+
+-- and up to 110 degrees along a meridian it is as long as its latitudes lie apart: each step of n ticks counts, as n ticks
+pub north-exact : (lat lon lat′ : ℤ) → accepted lat lon ≡ true → accepted lat′ lon ≡ true → natAbs (lat -ℤ lat′) ≤ 1_100_000_000
+    → lengthPaper (legOf lat lon lat′ lon) .millimetres ≡ natAbs (lat -ℤ lat′) * 111_194_927 / 10_000_000
+north-exact lat lon lat′ a b h = rw (leg-is lat lon lat′ lon a b) (G.north-exact lat lon lat′ h)
+
+-- the long sines that are answered, for an angle in half ticks and for 90 degrees less a latitude's size
+abbrev halfAt : ℕ → ℕ
+halfAt a = natAbs (sinePaper (longSineHalfOf (pos a)) .value)
+
+halfAt-is : (a : ℕ) → a ≤ quarterHalves → halfAt a ≡ longSineHalf a
+halfAt-is a h = ap (λ (s : SineOut). natAbs (s .value)) (half-is a h)
+
+abbrev longCosineAt : ℤ → ℕ
+longCosineAt lat = natAbs (sinePaper (longSineOf (pos (quarter - natAbs lat))) .value)
+
+longCosineAt-is : (lat : ℤ) → longCosineAt lat ≡ longSine (quarter - natAbs lat)
+longCosineAt-is lat = let a = quarter - natAbs lat in ap (λ (s : SineOut). natAbs (s .value)) (long-as-before (pos a) (size-latitude (pos a) (omega arith)))
+
+-- "the long ones divided by 5,000": what that says of a long sine and a short one
+pub record Shortened (long short : ℕ) : Type 0 where
+  pub low : 5_000 * short ≤ long
+  pub high : long < 5_000 * short + 5_000
+
+shortened : (long : ℕ) → Shortened long (long / 5_000)
+shortened long = record { low = omega arith; high = omega arith }
+
 -- "Length of a leg", sentence by sentence and without a division
 pub record IsLeg (lat lon lat′ lon′ : ℤ) (length : ℕ) : Type 0 where
-  pub p : ℕ
-  pub q : ℕ
+  pub c : ℕ
+  pub c′ : ℕ
+  pub a : ℕ
+  pub b : ℕ
   pub m : ℕ
   pub h : ℕ
   pub r : ℕ
   pub u : ℕ
-  -- "half the size of the latitude difference, dropping a half"
-  pub p-low : 2 * p ≤ natAbs (lat -ℤ lat′)
-  pub p-high : natAbs (lat -ℤ lat′) < 2 * p + 2
-  -- "half of the smaller of d and 3,600,000,000 - d, dropping a half, where d is the size of the longitude difference"
-  pub q-low : 2 * q ≤ min (natAbs (lon -ℤ lon′)) (3_600_000_000 - natAbs (lon -ℤ lon′))
-  pub q-high : min (natAbs (lon -ℤ lon′)) (3_600_000_000 - natAbs (lon -ℤ lon′)) < 2 * q + 2
-  -- "the product of the two short cosines divided by 10^9, floored"
-  pub m-low : 1_000_000_000 * m ≤ cosineAt lat * cosineAt lat′
-  pub m-high : cosineAt lat * cosineAt lat′ < 1_000_000_000 * m + 1_000_000_000
-  -- "H = (short sine of p)² + floor(m × (short sine of q)² / 10^9), the last product exact before the division"
-  pub h-low : 1_000_000_000 * h ≤ 1_000_000_000 * (sineAt p * sineAt p) + m * (sineAt q * sineAt q)
-  pub h-high : 1_000_000_000 * (sineAt p * sineAt p) + m * (sineAt q * sineAt q) < 1_000_000_000 * h + 1_000_000_000
+  -- "short sines and cosines are the long ones divided by 5,000": of the two latitudes,
+  pub cosine : Shortened (longCosineAt lat) c
+  pub cosine′ : Shortened (longCosineAt lat′) c′
+  -- of p, "half the size of the latitude difference", in half ticks,
+  pub sine-p : Shortened (halfAt (natAbs (lat -ℤ lat′))) a
+  -- and of q, "half of the smaller of d and 3,600,000,000 - d .., where d is the size of the longitude difference"
+  pub sine-q : Shortened (halfAt (min (natAbs (lon -ℤ lon′)) (3_600_000_000 - natAbs (lon -ℤ lon′)))) b
+  -- "the product of the two short cosines divided by" 2×10^9, "floored"
+  pub m-low : 2_000_000_000 * m ≤ c * c′
+  pub m-high : c * c′ < 2_000_000_000 * m + 2_000_000_000
+  -- "H = (short sine of p)² + floor(m × (short sine of q)² / " 2×10^9 "), the last product exact before the division"
+  pub h-low : 2_000_000_000 * h ≤ 2_000_000_000 * (a * a) + m * (b * b)
+  pub h-high : 2_000_000_000 * (a * a) + m * (b * b) < 2_000_000_000 * h + 2_000_000_000
   -- "the greatest whole number whose square is at most H"
   pub r-low : r * r ≤ h
   pub r-high : h < (r + 1) * (r + 1)
-  -- "the greatest angle from 0 to 90 degrees whose short sine is at most r"
-  pub u-inside : u ≤ 900_000_000
-  pub u-low : sineAt u ≤ r
-  pub u-high : (v : ℕ) → u < v → v ≤ 900_000_000 → r < sineAt v
-  -- "The arc is 2u ticks. Its length is arc × 111,194,927 / 10,000,000 millimetres, floored."
-  pub length-low : 10_000_000 * length ≤ 2 * u * 111_194_927
-  pub length-high : 2 * u * 111_194_927 < 10_000_000 * length + 10_000_000
+  -- "the greatest angle from 0 to 90 degrees whose short sine is at most r", "sought in half ticks"
+  pub u-inside : u ≤ 1_800_000_000
+  pub u-low : halfAt u < 5_000 * (r + 1)
+  pub u-high : (v : ℕ) → u < v → v ≤ 1_800_000_000 → 5_000 * (r + 1) ≤ halfAt v
+  -- "the arc is u ticks", "Its length is arc × 111,194,927 / 10,000,000 millimetres, floored."
+  pub length-low : 10_000_000 * length ≤ u * 111_194_927
+  pub length-high : u * 111_194_927 < 10_000_000 * length + 10_000_000
 
 pub leg-by-rule : (lat lon lat′ lon′ : ℤ) → accepted lat lon ≡ true → accepted lat′ lon′ ≡ true
     → IsLeg lat lon lat′ lon′ (lengthPaper (legOf lat lon lat′ lon′) .millimetres)
-unfolding legLength
-leg-by-rule lat lon lat′ lon′ a b =
+unfolding legLength legCosine
+leg-by-rule lat lon lat′ lon′ x y =
     let p = halfNorth lat lat′ in
     let q = halfEast lon lon′ in
-    let m = shortCosine lat * shortCosine lat′ / shortUnit in
+    let m = cosines lat lat′ in
     let h = chord m p q in
     let r = rootOf h in
     let u = greatestAngle r in
     let g = greatestAngle-meets r in
-    let l = and-true (isLatitude lat) (isLongitude lon) a .0 in
-    let l′ = and-true (isLatitude lat′) (isLongitude lon′) b .0 in
-    let c = ap₂ (λ (x y : ℕ). x * y) (cosineAt-is lat) (cosineAt-is lat′) in
-    let s = ap (λ (x : ℕ). x * x) (sineAt-is p (G.north-top lat lat′ l l′)) in
-    let t = ap (λ (x : ℕ). m * (x * x)) (sineAt-is q (G.east-top lon lon′)) in
-    rw (leg-is lat lon lat′ lon′ a b)
+    let l = and-true (isLatitude lat) (isLongitude lon) x .0 in
+    let l′ = and-true (isLatitude lat′) (isLongitude lon′) y .0 in
+    rw (leg-is lat lon lat′ lon′ x y)
     (record {
-      p = p;
-      q = q;
+      c = legCosine lat;
+      c′ = legCosine lat′;
+      a = legSine p;
+      b = legSine q;
       m = m;
       h = h;
       r = r;
       u = u;
-      p-low = omega arith;
-      p-high = omega arith;
-      q-low = omega arith;
-      q-high = omega arith;
+      cosine = rw (longCosineAt-is lat) (shortened _);
+      cosine′ = rw (longCosineAt-is lat′) (shortened _);
+      sine-p = rw (halfAt-is p (G.north-top lat lat′ l l′)) (shortened _);
+      sine-q = rw (halfAt-is q (G.east-top lon lon′)) (shortened _);
       m-low = omega arith;
       m-high = omega arith;
       h-low = omega arith;
@@ -349,8 +416,8 @@ leg-by-rule lat lon lat′ lon′ a b =
       r-low = G.root-low h;
       r-high = G.root-high h;
       u-inside = g .inside;
-      u-low = omega (arith, sineAt-is u (g .inside), leb-true (shortSine u) r (g .holds));
-      u-high = λ v n k. omega (arith, sineAt-is v k, leb-false (shortSine v) r (g .later v n k));
+      u-low = omega (arith, halfAt-is u (g .inside), leb-true (legSine u) r (g .holds));
+      u-high = λ v n k. omega (arith, halfAt-is v k, leb-false (legSine v) r (g .later v n k));
       length-low = omega arith;
       length-high = omega arith;
     })

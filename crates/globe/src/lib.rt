@@ -2,7 +2,7 @@
 // Each function makes the table of sines first of all and lends it to the work: nothing returns before it is made, since the compiled
 // code can go wrong where a function returns before it makes a large local (docs/DECISIONS.md, "The table is made first").
 ghost use mathlib.Core.Path.{_≡_};
-ghost use Rattle.globe.specs.Angle.{longSineOf, shortSineOf};
+ghost use Rattle.globe.specs.Angle.{longSineOf, shortSineOf, longSineHalfOf};
 ghost use Rattle.globe.specs.Sheet.{cylindricalOf, sinusoidalOf, cylindricalBackOf, sinusoidalBackOf};
 ghost use Rattle.globe.specs.Leg.{legOf};
 ghost use Rattle.globe.specs.Measure.{measureOf};
@@ -94,6 +94,14 @@ pub fn long_sine(angle: i32) -> Sine
 {
     let t = table_of_sines();
     lookup::long_sine(&t, angle)
+}
+
+// 10^13 times the sine of an angle from 0 to 90 degrees, in half ticks.
+pub fn long_sine_half(halves: i32) -> Sine
+    ensures { λ r. ⌜ r ≡ longSineHalfOf halves ⌝ }
+{
+    let t = table_of_sines();
+    lookup::long_sine_half(&t, halves)
 }
 
 // 10^9 times the sine of an angle from -180 to 180 degrees.

@@ -1,12 +1,13 @@
-// Sines by a lent table of sines: the long and the short sine of a size, of an angle all the way round, and the cosine of a latitude.
+// Sines by a lent table of sines: the long and the short sine of a size, of an angle all the way round, and the cosine of a latitude. They are looked up
+// in half ticks, of which two are a tick.
 ghost use mathlib.Core.Path.{_≡_};
 ghost use mathlib.Core.Bool.{true};
 ghost use Prim.Native.Nat.{_≤_};
 ghost use Rattle.sines.specs.Table.{sines, entry};
 ghost use Rattle.sines.specs.Rules.{rows};
-ghost use Rattle.sines.specs.Sine.{quarter, longSine, shortSine};
+ghost use Rattle.sines.specs.Sine.{quarter, longSine, shortSine, quarterHalves, longSineHalf};
 ghost use Rattle.ticks.specs.Ticks.{isLatitude, isAngle};
-ghost use Rattle.globe.specs.Angle.{signedLongSine, shortCosine, longAround, shortAround, longSineOf, shortSineOf};
+ghost use Rattle.globe.specs.Angle.{signedLongSine, shortCosine, longAround, shortAround, longSineOf, shortSineOf, longSineHalfOf};
 use crate::Sine;
 use refusals::LATITUDE;
 use signed::size32;
@@ -22,6 +23,11 @@ pub(crate) const STEP: u32 = 200_000;
 
 pub(crate) const QUARTER: u32 = NORTH as u32;
 
+// The same in half ticks.
+pub(crate) const STEP_HALVES: u32 = 2 * STEP;
+
+pub(crate) const QUARTER_HALVES: u32 = 2 * QUARTER;
+
 pub(crate) const SHORTENING: u64 = 10_000;
 
 pub(crate) fn entry(t: &Entries, k: usize) -> u64
@@ -32,19 +38,27 @@ pub(crate) fn entry(t: &Entries, k: usize) -> u64
     t[k]
 }
 
-// f × (entry k+1 - entry k) is below 200,000 × 10^13, which fits.
-pub(crate) fn long_sine_of(t: &Entries, a: u32) -> u64
+// f × (entry k+1 - entry k) is below 400,000 × 10^13, which fits.
+pub(crate) fn long_sine_half_of(t: &Entries, a: u32) -> u64
     requires { ⌜ now t ≡ sines ⌝ }
-    requires { ⌜ a ≤ quarter ⌝ }
-    ensures { λ r. ⌜ r ≡ longSine a ⌝ }
+    requires { ⌜ a ≤ quarterHalves ⌝ }
+    ensures { λ r. ⌜ r ≡ longSineHalf a ⌝ }
 {
-    let k = (a / STEP) as usize;
+    let k = (a / STEP_HALVES) as usize;
     let low = entry(t, k);
     if k == ROWS {
         return low;
     }
     let gap = entry(t, k + 1) - low;
-    low + (a % STEP) as u64 * gap / STEP as u64
+    low + (a % STEP_HALVES) as u64 * gap / STEP_HALVES as u64
+}
+
+pub(crate) fn long_sine_of(t: &Entries, a: u32) -> u64
+    requires { ⌜ now t ≡ sines ⌝ }
+    requires { ⌜ a ≤ quarter ⌝ }
+    ensures { λ r. ⌜ r ≡ longSine a ⌝ }
+{
+    long_sine_half_of(t, 2 * a)
 }
 
 pub(crate) fn short_sine_of(t: &Entries, a: u32) -> u64
@@ -109,4 +123,14 @@ pub(crate) fn short_sine(t: &Entries, angle: i32) -> Sine
         return Sine::Refused(LATITUDE);
     }
     Sine::Value(short_around(t, a))
+}
+
+pub(crate) fn long_sine_half(t: &Entries, halves: i32) -> Sine
+    requires { ⌜ now t ≡ sines ⌝ }
+    ensures { λ r. ⌜ r ≡ longSineHalfOf halves ⌝ }
+{
+    if !((0 <= halves) & (halves <= QUARTER_HALVES as i32)) {
+        return Sine::Refused(LATITUDE);
+    }
+    Sine::Value(long_sine_half_of(t, size32(halves)) as i64)
 }

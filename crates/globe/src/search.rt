@@ -1,14 +1,11 @@
 // The ways back, by a search of a lent table of sines for the last row at or below a number.
 ghost use mathlib.Core.Path.{_≡_};
 ghost use Rattle.sines.specs.Table.{sines};
-ghost use Rattle.sines.specs.Sine.{step};
+ghost use Rattle.sines.specs.Sine.{step, stepHalves};
 ghost use Rattle.sines.specs.BackLaws.{LastRow, LastAngle};
-ghost use Rattle.sines.specs.Back.{greatestAngle};
-use crate::SHORT_UNIT;
-use crate::lookup::QUARTER;
+use crate::lookup::QUARTER_HALVES;
 use crate::lookup::ROWS;
-use crate::lookup::SHORTENING;
-use crate::lookup::STEP;
+use crate::lookup::STEP_HALVES;
 use crate::lookup::entry;
 use sines::Entries;
 
@@ -30,29 +27,26 @@ fn last_row(t: &Entries, y: u64) -> usize
     low
 }
 
-// The last angle up to 90 degrees whose long sine is at most `y`. Off the last row `y` is below the next entry, which is at most
+// The last angle up to 90 degrees, in half ticks, whose long sine is at most `y`. Off the last row `y` is below the next entry, which is at most
 // 10^13, so that the product fits.
+pub(crate) fn last_half(t: &Entries, y: u64) -> u32
+    requires { ⌜ now t ≡ sines ⌝ }
+    ensures { λ r. ⌜ LastAngle stepHalves y r ⌝ }
+{
+    let k = last_row(t, y);
+    if k == ROWS {
+        return QUARTER_HALVES;
+    }
+    let low = entry(t, k);
+    let gap = entry(t, k + 1) - low;
+    let f = ((y - low + 1) * STEP_HALVES as u64 - 1) / gap;
+    (k as u64 * STEP_HALVES as u64 + f) as u32
+}
+
+// The same in ticks.
 pub(crate) fn last_angle(t: &Entries, y: u64) -> u32
     requires { ⌜ now t ≡ sines ⌝ }
     ensures { λ r. ⌜ LastAngle step y r ⌝ }
 {
-    let k = last_row(t, y);
-    if k == ROWS {
-        return QUARTER;
-    }
-    let low = entry(t, k);
-    let gap = entry(t, k + 1) - low;
-    let f = ((y - low + 1) * STEP as u64 - 1) / gap;
-    (k as u64 * STEP as u64 + f) as u32
-}
-
-// The greatest angle up to 90 degrees whose short sine is at most `r`: short sine at most r is long sine below (r + 1) × 10,000.
-pub(crate) fn greatest_angle(t: &Entries, r: u64) -> u32
-    requires { ⌜ now t ≡ sines ⌝ }
-    ensures { λ u. ⌜ u ≡ greatestAngle r ⌝ }
-{
-    if SHORT_UNIT <= r {
-        return QUARTER;
-    }
-    last_angle(t, r * SHORTENING + (SHORTENING - 1))
+    last_half(t, y) / 2
 }

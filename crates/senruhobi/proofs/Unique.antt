@@ -10,6 +10,9 @@ use Rattle.senruhobi.proofs as senruhobi
 pub senruhobi-long-sine : One senruhobi.senruhobi_long_sine.ended senruhobi.senruhobi_long_sine.Reads.Asked senruhobi.senruhobi_long_sine.Reads.Learnt
 senruhobi-long-sine = answers (λ κs a v w. refl)
 
+pub senruhobi-long-sine-half : One senruhobi.senruhobi_long_sine_half.ended senruhobi.senruhobi_long_sine_half.Reads.Asked senruhobi.senruhobi_long_sine_half.Reads.Learnt
+senruhobi-long-sine-half = answers (λ κs a v w. refl)
+
 pub senruhobi-short-sine : One senruhobi.senruhobi_short_sine.ended senruhobi.senruhobi_short_sine.Reads.Asked senruhobi.senruhobi_short_sine.Reads.Learnt
 senruhobi-short-sine = answers (λ κs a v w. refl)
 

@@ -1,4 +1,5 @@
--- The figures that the document marks P, proved about the definitions: one list under one claim, in the paper's own numbers.
+-- The figures that the document marks P, those of legs as R-4 has them, and the leg of its report, proved about the definitions: one list under one claim, in the paper's own
+-- numbers.
 -- Assumes nothing.
 use mathlib.Core.Path.{_≡_}
 use lib.IntN.{pos, negℤ}
@@ -31,12 +32,15 @@ pub record Figures : Type 0 where
   -- "sinusoidal back (0, 900,000,000), meridian 5° E: 90° N 5° E", "(1, 900,000,000): 11"
   pub pole : pointPaper (sinusoidalBackOf (pos 0) (pos 900_000_000) (pos 50_000_000)) ≡ record { refusal = 0; latitude = pos 900_000_000; longitude = pos 50_000_000 }
   pub pole-nobody : pointPaper (sinusoidalBackOf (pos 1) (pos 900_000_000) (pos 50_000_000)) ≡ record { refusal = 11; latitude = pos 0; longitude = pos 0 }
-  -- "length from 0,0 to 1 tick north: 0", "to 2 ticks north: 22"
-  pub one-tick-north : lengthPaper (legOf (pos 0) (pos 0) (pos 1) (pos 0)) ≡ record { refusal = 0; millimetres = 0 }
+  -- "One tick north is then 11 mm, two are 22, and equal points 0."
+  pub one-tick-north : lengthPaper (legOf (pos 0) (pos 0) (pos 1) (pos 0)) ≡ record { refusal = 0; millimetres = 11 }
   pub two-ticks-north : lengthPaper (legOf (pos 0) (pos 0) (pos 2) (pos 0)) ≡ record { refusal = 0; millimetres = 22 }
+  pub equal-points : lengthPaper (legOf (pos 0) (pos 0) (pos 0) (pos 0)) ≡ record { refusal = 0; millimetres = 0 }
   -- "0, 179.9° E to 0, 179.9° W: 22,238,985. Pole to pole: 20,015,086,860."
   pub across-the-date-line : lengthPaper (legOf (pos 0) (pos 1_799_000_000) (pos 0) (negℤ (pos 1_799_000_000))) ≡ record { refusal = 0; millimetres = 22_238_985 }
   pub pole-to-pole : lengthPaper (legOf (pos 900_000_000) (pos 0) (negℤ (pos 900_000_000)) (pos 0)) ≡ record { refusal = 0; millimetres = 20_015_086_860 }
+  -- not marked P: the leg in the report, a quarter of the equator, "length→10007543430"
+  pub quarter : lengthPaper (legOf (pos 0) (pos 0) (pos 0) (pos 900_000_000)) ≡ record { refusal = 0; millimetres = 10_007_543_430 }
 
 pub figures : Figures
 figures = record {
@@ -55,6 +59,8 @@ figures = record {
   pole-nobody = G.sinusoidal-back-beside-pole;
   one-tick-north = G.length-1-north;
   two-ticks-north = G.length-2-north;
+  equal-points = G.length-equal;
   across-the-date-line = G.length-across-180;
   pole-to-pole = G.length-pole-to-pole;
+  quarter = G.length-quarter;
 }

@@ -3,7 +3,7 @@
 ghost use mathlib.Core.Path.{_≡_};
 ghost use lib.ListN.{length};
 ghost use Rattle.globe.specs.Paper.{sinePaper, placePaper, pointPaper, lengthPaper, directionPaper};
-ghost use Rattle.globe.specs.Angle.{longSineOf, shortSineOf};
+ghost use Rattle.globe.specs.Angle.{longSineOf, shortSineOf, longSineHalfOf};
 ghost use Rattle.globe.specs.Sheet.{cylindricalOf, sinusoidalOf, cylindricalBackOf, sinusoidalBackOf};
 ghost use Rattle.globe.specs.Leg.{legOf};
 ghost use Rattle.globe.specs.Measure.{measureOf};
@@ -33,6 +33,13 @@ pub extern "C" fn senruhobi_long_sine(angle: i32) -> SineOut
     ensures { λ r. ⌜ r ≡ sinePaper (longSineOf angle) ⌝ }
 {
     out::sine(globe::long_sine(angle))
+}
+
+#[no_mangle]
+pub extern "C" fn senruhobi_long_sine_half(halves: i32) -> SineOut
+    ensures { λ r. ⌜ r ≡ sinePaper (longSineHalfOf halves) ⌝ }
+{
+    out::sine(globe::long_sine_half(halves))
 }
 
 #[no_mangle]

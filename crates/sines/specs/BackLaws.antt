@@ -1,6 +1,6 @@
 -- Laws of the way back: the last row and the last angle whose sine is at most a number, and the greatest angle that they give.
 -- Assumes nothing.
-use mathlib.Core.Path.{_≡_}
+use mathlib.Core.Path.{_≡_, sym}
 use Prim.Native.Nat.{ℕ, _+_, _-_, _*_, _/_, _≤_, _<_}
 use native.Mathlib.Nat.{le-refl, mul-le-mul-right, mul-pos, div-mul-le-self, lt-div-mul-add, le-div-iff-mul-le, div-lt-iff-lt-mul}
 use native.Mathlib.Omega.{arith}
@@ -8,8 +8,8 @@ use lib.Dec.{leb}
 use borrow.Author.Tests.{le-leb, lt-leb}
 use Rattle.sines.specs.Table.{unit, entry}
 use Rattle.sines.specs.Rules.{rows, growth}
-use Rattle.sines.specs.Sine.{quarter, sineBy, shortSine}
-use Rattle.sines.specs.SineLaws.{between, in-row, to-next, top, sineBy-le, longSine-zero}
+use Rattle.sines.specs.Sine.{step, sineBy, stepHalves, quarterHalves, legSine}
+use Rattle.sines.specs.SineLaws.{between, in-row, to-next, top, sineBy-le, some-halves, halves, longSineHalf-zero, legSine-lt}
 use Rattle.sines.specs.Greatest.{IsGreatest}
 use Rattle.sines.specs.GreatestLaws.{greatest-is, greatest-meets}
 use Rattle.sines.specs.Back.{greatestBy, greatestAngle}
@@ -85,6 +85,23 @@ module _ {s : ℕ} (positive : 0 < s) where
         later = λ v l h. lt-leb (sineBy s v / d) r (omega (arith, le-div-iff-mul-le {k = d} {x = r + 1} {y = sineBy s v} n .1 (omega (arith, later a l h))));
       })
 
-pub greatestAngle-meets : (r : ℕ) → IsGreatest (λ u. leb (shortSine u) r) quarter (greatestAngle r)
+pub greatestAngle-meets : (r : ℕ) → IsGreatest (λ u. leb (legSine u) r) quarterHalves (greatestAngle r)
 unfolding greatestBy
-greatestAngle-meets r = greatest-meets (λ u. leb (shortSine u) r) (le-leb (shortSine 0) r (omega (arith, longSine-zero)))
+greatestAngle-meets r = greatest-meets (λ u. leb (legSine u) r) (le-leb (legSine 0) r (omega (arith, longSineHalf-zero)))
+
+-- up to 55 degrees the greatest angle with an angle's short sine is that angle
+pub greatest-own : {u : ℕ} → u ≤ 1_100_000_000 → greatestAngle (legSine u) ≡ u
+greatest-own {u} h =
+    let r = legSine u in
+    let l = legSine-lt h in
+    sym (greatest-angle some-halves {y = r * 5_000 + 4_999} r (omega arith) (omega arith) (record { inside = omega arith; low = omega arith; high = λ _. omega arith }))
+
+-- ---- ticks from half ticks
+
+pub whole-ticks : {y u : ℕ} → LastAngle stepHalves y u → LastAngle step y (u / 2)
+whole-ticks {y} {u} a = record {
+  inside = omega (arith, a .inside);
+  low = omega (arith, halves (u / 2), sineBy-le some-halves {a = 2 * (u / 2)} {b = u} (omega arith) (a .inside), a .low);
+  high = λ l. let n : 2 * (u / 2 + 1) ≤ quarterHalves = omega arith in
+      omega (arith, halves (u / 2 + 1), later some-halves a {v = 2 * (u / 2 + 1)} (omega arith) n);
+}

@@ -2,14 +2,13 @@
 -- entry 4500 `Rules.last`, and the long sine of 1 tick `SineLaws.longSine-tick`.
 -- Assumes nothing.
 use mathlib.Core.Path.{_≡_, refl, sym, _∙_}
-use Prim.Native.Nat.{ℕ, _+_, _*_, _≤_, _<_}
 use native.Mathlib.Omega.{arith}
 use Rattle.sines.specs.Table.{sines, sinesFrom, rounded, sineOfStep, twiceCosine, entry}
 use Rattle.sines.specs.Rules.{last}
-use Rattle.sines.specs.Sine.{quarter, sineBy, longSine, shortSine}
-use Rattle.sines.specs.SineLaws.{between, a-step, between-start, in-row, longSine-tick}
+use Rattle.sines.specs.Sine.{sineBy, longSine, quarterHalves, longSineHalf}
+use Rattle.sines.specs.SineLaws.{between, a-step, between-start, in-row, some-halves, longSineHalf-1}
 use Rattle.sines.specs.Back.{greatestAngle}
-use Rattle.sines.specs.BackLaws.{last-angle-top, greatest-angle}
+use Rattle.sines.specs.BackLaws.{last-angle-top, greatest-angle, greatest-own}
 
 -- ---- the table
 
@@ -48,31 +47,32 @@ pub long-before-90 : longSine 899_999_999 ≡ 9_999_999_999_996
 unfolding between
 long-before-90 = in-row a-step 4_499 {f = 199_999} (omega arith) ∙ rw (entry-4499, last)
 
--- of 2 ticks
-long-2 : longSine 2 ≡ 34_906
+-- of 31 half ticks, of a tenth of a degree and of 45 degrees
+long-half-31 : longSineHalf 31 ≡ 270_526
 unfolding sineBy entry sines sinesFrom rounded sineOfStep twiceCosine
-long-2 = refl
+long-half-31 = refl
 
--- of a tenth of a degree, and of one tick more
-pub long-tenth : longSine 1_000_000 ≡ 17_453_283_659
+pub long-half-tenth : longSineHalf 2_000_000 ≡ 17_453_283_659
 unfolding sineBy entry sines sinesFrom rounded sineOfStep twiceCosine
-long-tenth = refl
+long-half-tenth = refl
 
-long-past-tenth : longSine 1_000_001 ≡ 17_453_301_112
+pub long-half-45 : longSineHalf 900_000_000 ≡ 7_071_067_811_865
 unfolding sineBy entry sines sinesFrom rounded sineOfStep twiceCosine
-long-past-tenth = refl
+long-half-45 = refl
 
--- ---- back to the greatest angle of a short sine
-
-greatest-by : {u : ℕ} (r : ℕ) → u < quarter → shortSine u ≤ r → r < shortSine (u + 1) → greatestAngle r ≡ u
-greatest-by {u} r h l m =
-    sym (greatest-angle a-step {y = r * 10_000 + 9_999} r (omega arith) (omega arith) (record { inside = omega arith; low = omega arith; high = λ _. omega arith }))
+-- ---- back to the greatest angle of a short sine of the length rule
 
 pub greatest-1 : greatestAngle 1 ≡ 1
-greatest-1 = greatest-by 1 (omega arith) (omega (arith, longSine-tick)) (omega (arith, long-2))
+greatest-1 = rw longSineHalf-1 at (greatest-own {u = 1} (omega arith))
 
-pub greatest-tenth : greatestAngle 1_745_328 ≡ 1_000_000
-greatest-tenth = greatest-by 1_745_328 (omega arith) (omega (arith, long-tenth)) (omega (arith, long-past-tenth))
+pub greatest-54 : greatestAngle 54 ≡ 31
+greatest-54 = rw long-half-31 at (greatest-own {u = 31} (omega arith))
 
-pub greatest-90 : greatestAngle 1_000_000_000 ≡ quarter
-greatest-90 = sym (greatest-angle a-step {y = 10_000_000_009_999} 1_000_000_000 (omega arith) (omega arith) (last-angle-top a-step (omega arith)))
+pub greatest-tenth : greatestAngle 3_490_656 ≡ 2_000_000
+greatest-tenth = rw long-half-tenth at (greatest-own {u = 2_000_000} (omega arith))
+
+pub greatest-45 : greatestAngle 1_414_213_562 ≡ 900_000_000
+greatest-45 = rw long-half-45 at (greatest-own {u = 900_000_000} (omega arith))
+
+pub greatest-90 : greatestAngle 2_000_000_000 ≡ quarterHalves
+greatest-90 = sym (greatest-angle some-halves {y = 10_000_000_004_999} 2_000_000_000 (omega arith) (omega arith) (last-angle-top some-halves (omega arith)))

@@ -1,9 +1,9 @@
 -- The two rules of the table, each proved once over it: a test that antt computes over the whole table, and a law that turns
--- the test into the rule at each entry. With them the ends of the table, and that it rises.
+-- the test into the rule at each entry. With them how far it grows beyond its rule, the ends of the table, and that it rises.
 -- Assumes nothing.
 use mathlib.Core.Path.{_≡_, refl, ap}
 use mathlib.Core.Logic.{⊎-elim}
-use mathlib.Core.Bool.{Bool, true, _&&_}
+use mathlib.Core.Bool.{Bool, true, false, _&&_}
 use mathlib.Core.List.{List, [], _∷_}
 use Prim.Native.Nat.{ℕ, zero, suc, _+_, _-_, _≤_, _<_}
 use native.Mathlib.Nat.{le-refl, le-trans, le-of-eq, eq-or-lt-of-le, le-of-suc-le-suc, not-suc-le-zero}
@@ -41,21 +41,34 @@ pub record Bends (x y z : ℕ) : Type 0 where
   pub low : negℤ mostBend ≤ℤ bend x y z
   pub high : bend x y z ≤ℤ mostBend
 
--- ---- growth, as a test of the numbers that follow x
+-- ---- growth by at least g, as a test of the first n numbers that follow x
 
-grow : ℕ → List ℕ → Bool
-grow x [] = true
-grow x (y ∷ ys) = leb (x + leastGrowth) y && grow y ys
+module _ (g : ℕ) where
+  grow : ℕ → ℕ → List ℕ → Bool
+  grow zero x ys = true
+  grow (suc n) x [] = false
+  grow (suc n) x (y ∷ ys) = leb (x + g) y && grow n y ys
 
-grow-at : (x : ℕ) (ys : List ℕ) → T (grow x ys) → (k : ℕ) → k < length ys → Grows (getD (x ∷ ys) k 0) (getD (x ∷ ys) (suc k) 0)
-unfolding grow
-grow-at x [] t k h = absurd (not-suc-le-zero h)
-grow-at x (y ∷ ys) t zero h = leb-yes (and-yes (leb (x + leastGrowth) y) (grow y ys) t .0)
-grow-at x (y ∷ ys) t (suc k) h = grow-at y ys (and-yes (leb (x + leastGrowth) y) (grow y ys) t .1) k (le-of-suc-le-suc h)
+  grow-at : (n x : ℕ) (ys : List ℕ) → T (grow n x ys) → (k : ℕ) → k < n → getD (x ∷ ys) k 0 + g ≤ getD (x ∷ ys) (suc k) 0
+  unfolding grow
+  grow-at zero x ys t k h = absurd (not-suc-le-zero h)
+  grow-at (suc n) x [] t k h = absurd t
+  grow-at (suc n) x (y ∷ ys) t zero h = leb-yes (and-yes (leb (x + g) y) (grow n y ys) t .0)
+  grow-at (suc n) x (y ∷ ys) t (suc k) h = grow-at n y ys (and-yes (leb (x + g) y) (grow n y ys) t .1) k (le-of-suc-le-suc h)
 
 pub growth : (k : ℕ) → k < rows → Grows (entry k) (entry (k + 1))
 unfolding entry sines sinesFrom rounded sineOfStep twiceCosine grow
-growth k h = rw add-one (grow-at 0 (sinesFrom rows 0 sineOfStep) tt k h)
+growth k h = rw add-one (grow-at leastGrowth rows 0 (sinesFrom rows 0 sineOfStep) tt k h)
+
+-- by a whole step in half ticks, so that long sines rise with every half tick
+pub growth-halves : (k : ℕ) → k < rows → entry k + 400_000 ≤ entry (k + 1)
+unfolding entry sines sinesFrom rounded sineOfStep twiceCosine grow
+growth-halves k h = rw add-one (grow-at 400_000 rows 0 (sinesFrom rows 0 sineOfStep) tt k h)
+
+-- up to 55 degrees, which is row 2,750, by 5,000 of them, so that the short sine of the length rule does
+pub steep : (k : ℕ) → k ≤ 2_750 → entry k + 2_000_000_000 ≤ entry (k + 1)
+unfolding entry sines sinesFrom rounded sineOfStep twiceCosine grow
+steep k h = rw add-one (grow-at 2_000_000_000 2_751 0 (sinesFrom rows 0 sineOfStep) tt k (omega arith))
 
 -- ---- bending, as a test of the numbers that follow x and y
 

@@ -1,4 +1,4 @@
--- The long and the short sine of an angle from 0 to 90 degrees, in ticks.
+-- The long and the short sine of an angle from 0 to 90 degrees, in ticks; in half ticks the long sine, and the short one of the length rule.
 -- Assumes nothing.
 use Prim.Native.Nat.{ℕ, _+_, _-_, _*_, _/_, _%_}
 use Rattle.sines.specs.Table.{entry}
@@ -27,3 +27,25 @@ shortUnit = 1_000_000_000
 
 abbrev pub shortSine : ℕ → ℕ
 shortSine a = longSine a / shortening
+
+-- ---- in half ticks
+
+-- "from 0 to 90 degrees in half ticks .., with step 400,000 and the same table"
+abbrev pub stepHalves : ℕ
+stepHalves = 400_000
+
+abbrev pub quarterHalves : ℕ
+quarterHalves = 1_800_000_000
+
+abbrev pub longSineHalf : ℕ → ℕ
+longSineHalf a = sineBy stepHalves a
+
+-- "In the length rule alone, short sines and cosines are the long ones divided by 5,000, and 2×10^9 stands for 10^9"
+abbrev pub legShortening : ℕ
+legShortening = 5_000
+
+abbrev pub legUnit : ℕ
+legUnit = 2_000_000_000
+
+abbrev pub legSine : ℕ → ℕ
+legSine a = longSineHalf a / legShortening

@@ -4,11 +4,11 @@
 use mathlib.Core.Path.{_≡_, refl, sym, ap, _∙_}
 use mathlib.Core.Logic.{⊎-elim}
 use Prim.Native.Nat.{ℕ, _+_, _-_, _*_, _/_, _%_, _≤_, _<_}
-use native.Mathlib.Nat.{le-refl, le-trans, eq-or-lt-of-le, mul-le-mul-right, mul-lt-mul-of-pos-right, mod-lt, div-add-mod', mul-add-div-right, div-eq-of-lt, mul-add-mod-self-right, mod-eq-of-lt, mul-div-cancel-left, le-div-iff-mul-le, div-lt-iff-lt-mul, div-le-of-le-mul, div-mul-le-self, lt-div-mul-add, zero-div}
+use native.Mathlib.Nat.{le-refl, le-trans, eq-or-lt-of-le, mul-assoc, mul-le-mul-right, mul-lt-mul-of-pos-right, mod-lt, div-add-mod', mul-add-div-right, div-eq-of-lt, mul-add-mod-self-right, mod-eq-of-lt, mul-div-cancel-left, le-div-iff-mul-le, div-lt-iff-lt-mul, div-le-of-le-mul, div-mul-le-self, lt-div-mul-add, zero-div}
 use native.Mathlib.Omega.{arith}
 use Rattle.sines.specs.Table.{unit, sines, sinesFrom, rounded, sineOfStep, twiceCosine, entry}
-use Rattle.sines.specs.Rules.{rows, leastGrowth, growth, first, last, rising}
-use Rattle.sines.specs.Sine.{step, quarter, sineBy, longSine, shortUnit, shortSine}
+use Rattle.sines.specs.Rules.{rows, growth, growth-halves, steep, first, last, rising}
+use Rattle.sines.specs.Sine.{step, quarter, sineBy, longSine, shortUnit, shortSine, stepHalves, quarterHalves, longSineHalf, legUnit, legSine}
 
 -- f units past row k, s units from one row to the next
 unfoldable pub between : ℕ → ℕ → ℕ → ℕ
@@ -42,10 +42,9 @@ module _ {s : ℕ} (positive : 0 < s) where
         let m : f * gap < s * gap = mul-lt-mul-of-pos-right l (omega arith) in
         omega (arith, div-lt-iff-lt-mul {k = s} {x = f * gap} {y = gap} positive .1 (omega arith))
 
-    pub between-lt : {f g : ℕ} → s ≤ leastGrowth → f < g → between s k f < between s k g
+    pub between-lt : {f g : ℕ} → entry k + s ≤ entry (k + 1) → f < g → between s k f < between s k g
     unfolding between
-    between-lt {f} {g} small l =
-        let w = growth k h in
+    between-lt {f} {g} grows l =
         let q = f * gap / s in
         let a = div-mul-le-self (f * gap) s in
         let b : (f + 1) * gap ≤ g * gap = mul-le-mul-right gap (omega arith) in
@@ -102,14 +101,15 @@ module _ {s : ℕ} (positive : 0 < s) where
     pub sineBy-le : sineBy s a ≤ sineBy s b
     sineBy-le = ⊎-elim (λ e. rw (by-row s a, by-row s b, ← e) (between-le (a / s) (omega (arith, left e)))) (λ r. omega (arith, later-row r)) (eq-or-lt-of-le row-le)
 
-    strictly : s ≤ leastGrowth → a < b → sineBy s a < sineBy s b
-    strictly small m = ⊎-elim (λ e. rw (by-row s a, by-row s b, ← e) (between-lt inside small (omega (arith, left e)))) later-row (eq-or-lt-of-le row-le)
+    strictly : ((k : ℕ) → k < rows → entry k + s ≤ entry (k + 1)) → a < b → sineBy s a < sineBy s b
+    strictly grows m = ⊎-elim (λ e. rw (by-row s a, by-row s b, ← e) (between-lt inside (grows (a / s) inside) (omega (arith, left e)))) later-row (eq-or-lt-of-le row-le)
       where
         inside : a / s < rows
         inside = div-lt-iff-lt-mul {k = s} {x = a} {y = rows} positive .1 (omega arith)
 
-  pub sineBy-lt : {a b : ℕ} → s ≤ leastGrowth → a < b → b ≤ rows * s → sineBy s a < sineBy s b
-  sineBy-lt small h l = strictly (omega arith) l small h
+  -- strictly where each entry exceeds the one before by a unit for each of the s
+  pub sineBy-lt : {a b : ℕ} → ((k : ℕ) → k < rows → entry k + s ≤ entry (k + 1)) → a < b → b ≤ rows * s → sineBy s a < sineBy s b
+  sineBy-lt grows h l = strictly (omega arith) l grows h
 
   pub sineBy-top : {a : ℕ} → a ≤ rows * s → sineBy s a ≤ unit
   sineBy-top h = omega (arith, sineBy-le h (le-refl _), top)
@@ -120,7 +120,7 @@ pub a-step : 0 < step
 a-step = omega arith
 
 pub longSine-lt : {a b : ℕ} → a < b → b ≤ quarter → longSine a < longSine b
-longSine-lt h l = sineBy-lt a-step (le-refl _) h l
+longSine-lt h l = sineBy-lt a-step growth h l
 
 pub longSine-top : {a : ℕ} → a ≤ quarter → longSine a ≤ unit
 longSine-top h = sineBy-top a-step h
@@ -151,6 +151,52 @@ shortSine-top h = omega (arith, longSine-top h)
 -- off zero even the short sine is at least 1
 pub shortSine-some : {a : ℕ} → 0 < a → a ≤ quarter → 1 ≤ shortSine a
 shortSine-some h l = omega (arith, sineBy-le a-step {a = 1} h l, longSine-tick)
+
+-- ---- in half ticks
+
+pub some-halves : 0 < stepHalves
+some-halves = omega arith
+
+-- two half ticks are a tick
+pub halves : (a : ℕ) → longSineHalf (2 * a) ≡ longSine a
+unfolding between
+halves a =
+    let k : 2 * a / stepHalves ≡ a / step = omega arith in
+    let f : 2 * a % stepHalves ≡ 2 * (a % step) = omega arith in
+    let g = entry (a / step + 1) - entry (a / step) in
+    let e : 2 * (a % step) * g ≡ 2 * (a % step * g) = mul-assoc 2 (a % step) g in
+    rw (by-row stepHalves (2 * a), by-row step a, k, f, e) (omega arith)
+
+pub longSineHalf-lt : {a b : ℕ} → a < b → b ≤ quarterHalves → longSineHalf a < longSineHalf b
+longSineHalf-lt h l = sineBy-lt some-halves growth-halves h l
+
+pub longSineHalf-zero : longSineHalf 0 ≡ 0
+longSineHalf-zero = halves 0 ∙ longSine-zero
+
+pub longSineHalf-quarter : longSineHalf quarterHalves ≡ unit
+longSineHalf-quarter = top some-halves
+
+pub longSineHalf-1 : longSineHalf 1 ≡ 8_726
+unfolding sineBy entry sines sinesFrom rounded sineOfStep twiceCosine
+longSineHalf-1 = refl
+
+pub legSine-top : {a : ℕ} → a ≤ quarterHalves → legSine a ≤ legUnit
+legSine-top h = omega (arith, sineBy-top some-halves h)
+
+-- off zero even the short sine of the length rule is at least 1
+pub legSine-some : {a : ℕ} → 0 < a → a ≤ quarterHalves → 1 ≤ legSine a
+legSine-some h l = omega (arith, sineBy-le some-halves {a = 1} h l, longSineHalf-1)
+
+-- up to 55 degrees it rises with every half tick
+pub legSine-lt : {a : ℕ} → a ≤ 1_100_000_000 → legSine a < legSine (a + 1)
+unfolding between
+legSine-lt {a} h =
+    let k = a / stepHalves in
+    let f = a % stepHalves in
+    let e : a ≡ k * stepHalves + f = omega arith in
+    let n : a + 1 ≡ k * stepHalves + (f + 1) = omega arith in
+    let s = steep k (omega arith) in
+    rw (n, to-next some-halves {k = k} (omega arith) {f = f + 1} (omega arith)) (rw (by-row stepHalves a) (omega arith))
 
 -- ---- the document's words without their divisions
 

@@ -5,23 +5,23 @@ use Rattle.globe.specs.LegLaws.{square-top, chord-top}
 use Rattle.globe.proofs.legs.chord_of.Statement.{statement}
 use Rattle.globe.proofs.legs.chord_of.Tie as tie
 
-short-sine-of-requires : tie.Need-short-sine-of-requires
-short-sine-of-requires c κs = search needs
+leg-sine-requires : tie.Need-leg-sine-requires
+leg-sine-requires c κs = search needs
 
-short-sine-of-requires-2 : tie.Need-short-sine-of-requires-2
-short-sine-of-requires-2 c κs = search needs
+leg-sine-requires-2 : tie.Need-leg-sine-requires-2
+leg-sine-requires-2 c κs = search needs
 
 mul-result : tie.Need-mul-result
-mul-result c = rw (c .before .short-sine-of .ensures) (omega (arith, square-top (c .before .before .pre .1 .1 .0)))
+mul-result c = rw (c .before .leg-sine .ensures) (omega (arith, square-top (c .before .before .pre .1 .1 .0)))
 
 mul-scaled : tie.Need-mul-scaled
-mul-scaled c = rw (c .short-sine-of2 .ensures) (omega (arith, square-top (c .before .before .pre .1 .1 .1)))
+mul-scaled c = rw (c .leg-sine2 .ensures) (omega (arith, square-top (c .before .before .pre .1 .1 .1)))
 
 scaled-requires : tie.Need-scaled-requires
-scaled-requires c κs = (c .before .before .pre .1 .0, rw (c .short-sine-of2 .ensures) (square-top (c .before .before .pre .1 .1 .1)))
+scaled-requires c κs = (c .before .before .pre .1 .0, rw (c .leg-sine2 .ensures) (square-top (c .before .before .pre .1 .1 .1)))
 
 returns : tie.Need-returns
-returns c = rw (c .scaled .ensures, c .before .short-sine-of2 .ensures, c .before .before .short-sine-of .ensures)
+returns c = rw (c .scaled .ensures, c .before .leg-sine2 .ensures, c .before .before .leg-sine .ensures)
 
 add-result : tie.Need-add-result
 add-result c =
@@ -32,8 +32,8 @@ pub chord-of-spec : {M : Type 1} → statement M
 chord-of-spec =
     tie.close
     (tie.spec
-    short-sine-of-requires
-    short-sine-of-requires-2
+    leg-sine-requires
+    leg-sine-requires-2
     mul-result
     mul-scaled
     scaled-requires

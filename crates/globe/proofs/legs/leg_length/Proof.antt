@@ -4,25 +4,24 @@ use mathlib.Core.Path.{_≡_}
 use native.Mathlib.Omega.{arith}
 use Prim.Native.Nat.{_*_, _≤_}
 use mir.Facts.{toZ-ofZ}
-use Rattle.sines.specs.Sine.{shortUnit}
-use Rattle.globe.specs.Angle.{shortCosine}
-use Rattle.globe.specs.Leg.{halfNorth, halfEast, legLength}
+use Rattle.sines.specs.Sine.{legUnit}
+use Rattle.globe.specs.Leg.{halfNorth, halfEast, legCosine, legLength}
 use Rattle.globe.specs.LegLaws.{north-top, east-top, product-top}
 use Rattle.globe.proofs.legs.leg_length.Statement.{statement}
 use Rattle.globe.proofs.legs.leg_length.Tie as tie
 
-short-cosine-requires : tie.Need-short-cosine-requires
-short-cosine-requires c κs = search needs
+leg-cosine-requires : tie.Need-leg-cosine-requires
+leg-cosine-requires c κs = search needs
 
-short-cosine-requires-2 : tie.Need-short-cosine-requires-2
-short-cosine-requires-2 c κs = search needs
+leg-cosine-requires-2 : tie.Need-leg-cosine-requires-2
+leg-cosine-requires-2 c κs = search needs
 
 -- what the callees were given is what came in
-cosine-at : (c : tie.After-short-cosine) → c .short-cosine .result ≡ shortCosine (c .before .args .latitude)
-cosine-at c = rw (toZ-ofZ (c .before .fits .latitude)) at (c .short-cosine .ensures)
+cosine-at : (c : tie.After-leg-cosine) → c .leg-cosine .result ≡ legCosine (c .before .args .latitude)
+cosine-at c = rw (toZ-ofZ (c .before .fits .latitude)) at (c .leg-cosine .ensures)
 
-cosine-at-2 : (c : tie.After-short-cosine2) → c .short-cosine2 .result ≡ shortCosine (c .before .before .args .latitude2)
-cosine-at-2 c = rw (toZ-ofZ (c .before .before .fits .latitude2)) at (c .short-cosine2 .ensures)
+cosine-at-2 : (c : tie.After-leg-cosine2) → c .leg-cosine2 .result ≡ legCosine (c .before .before .args .latitude2)
+cosine-at-2 c = rw (toZ-ofZ (c .before .before .fits .latitude2)) at (c .leg-cosine2 .ensures)
 
 north-at : (c : tie.After-half-north) → let a = c .before .before .before .args in c .half-north .result ≡ halfNorth (a .latitude) (a .latitude2)
 north-at c = let f = c .before .before .before .fits in rw (toZ-ofZ (f .latitude), toZ-ofZ (f .latitude2)) at (c .half-north .ensures)
@@ -32,7 +31,7 @@ east-at c =
     let f = c .before .before .before .before .fits in
     rw (toZ-ofZ (f .longitude), toZ-ofZ (f .longitude2)) at (c .half-east .ensures)
 
-product : (c : tie.After-short-cosine2) → c .before .short-cosine .result * c .short-cosine2 .result ≤ shortUnit * shortUnit
+product : (c : tie.After-leg-cosine2) → c .before .leg-cosine .result * c .leg-cosine2 .result ≤ legUnit * legUnit
 product c =
     let a = c .before .before .args in
     rw (cosine-at (c .before), cosine-at-2 c) (product-top (a .latitude) (a .latitude2))
@@ -75,8 +74,8 @@ pub leg-length-spec : {M : Type 1} → statement M
 leg-length-spec =
     tie.close
     (tie.spec
-    short-cosine-requires
-    short-cosine-requires-2
+    leg-cosine-requires
+    leg-cosine-requires-2
     mul-m
     half-north-requires
     half-east-requires

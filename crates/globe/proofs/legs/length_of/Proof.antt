@@ -16,13 +16,10 @@ cast-result c = omega arith
 mul-result : tie.Need-mul-result
 mul-result c = omega arith
 
-mul-result-2 : tie.Need-mul-result-2
-mul-result-2 c = omega arith
-
 returns : tie.Need-returns
 returns c = rw (c .greatest-angle .ensures, c .before .root .ensures)
 
 pub length-of-spec : {M : Type 1} → statement M
 length-of-spec =
     tie.close
-    (tie.spec root-requires greatest-angle-requires cast-result mul-result mul-result-2 returns)
+    (tie.spec root-requires greatest-angle-requires cast-result mul-result returns)

@@ -1,85 +1,19 @@
--- `globe::lookup::long_sine_of` meets its contract: the entries rise, and the share of a gap fits. Assumes nothing.
+-- `globe::lookup::long_sine_of` meets its contract: two half ticks are a tick. Assumes nothing.
 use borrow.Author.Needs.{needs}
-use mathlib.Core.Path.{_≡_}
-use Prim.Native.Nat.{ℕ, _+_, _-_, _*_, _/_, _%_, _≤_, _<_}
-use native.Mathlib.Nat.{mul-le-mul}
+use mathlib.Core.Path.{_∙_}
 use native.Mathlib.Omega.{arith}
-use Rattle.sines.specs.Table.{unit}
-use Rattle.sines.specs.Rules.{rows, growth, last, entry-top}
-use Rattle.sines.specs.Sine.{step, quarter, sineBy}
-use Rattle.sines.specs.SineLaws.{between, longSine-quarter}
+use Rattle.sines.specs.SineLaws.{halves}
 use Rattle.globe.proofs.lookup.long_sine_of.Statement.{statement}
 use Rattle.globe.proofs.lookup.long_sine_of.Tie as tie
 
-cast-k : tie.Need-cast-k
-cast-k c = omega arith
+mul-long-sine-half-of : tie.Need-mul-long-sine-half-of
+mul-long-sine-half-of c = omega arith
 
-entry-requires : tie.Need-entry-requires
-entry-requires c κs = search needs
+long-sine-half-of-requires : tie.Need-long-sine-half-of-requires
+long-sine-half-of-requires c κs = search needs
 
 returns : tie.Need-returns
-returns c =
-    let e : c .before .before .args .a ≡ quarter = omega arith in
-    cc (last, longSine-quarter)
-
-add-entry : tie.Need-add-entry
-add-entry c = omega arith
-
-entry-requires-2 : tie.Need-entry-requires-2
-entry-requires-2 c κs = search needs
-
--- the two entries, and a share of the gap between them
-module _ (c : tie.After-entry2) where
-  abbrev a : ℕ
-  a = c .before .before .before .args .a
-
-  abbrev low : ℕ
-  low = c .before .before .entry .result
-
-  abbrev high : ℕ
-  high = c .entry2 .result
-
-  rises : (low < high) × (high ≤ unit)
-  rises = let h : a / step < rows = omega arith in omega (arith, growth (a / step) h, entry-top (a / step + 1) (omega arith))
-
-  share : a % step * (high - low) ≤ step * unit
-  share = let r = rises in mul-le-mul {n₂ = step} {m₂ = unit} (omega arith) (omega arith)
-
-sub-gap : tie.Need-sub-gap
-sub-gap c = omega (arith, rises c)
-
-cast-result : tie.Need-cast-result
-cast-result c = omega arith
-
-mul-result : tie.Need-mul-result
-mul-result c = omega (arith, share c)
-
-cast-result-2 : tie.Need-cast-result-2
-cast-result-2 c = omega arith
-
-div-result : tie.Need-div-result
-div-result c = omega arith
-
-add-result : tie.Need-add-result
-add-result c = omega (arith, share c, rises c)
-
-returns-2 : tie.Need-returns-2
-unfolding sineBy between
-returns-2 c = rw (c .entry2 .ensures, c .before .before .entry .ensures)
+returns c = c .long-sine-half-of .ensures ∙ halves (c .before .args .a)
 
 pub long-sine-of-spec : {M : Type 1} → statement M
-long-sine-of-spec =
-    tie.close
-    (tie.spec
-    cast-k
-    entry-requires
-    returns
-    add-entry
-    entry-requires-2
-    sub-gap
-    cast-result
-    mul-result
-    cast-result-2
-    div-result
-    add-result
-    returns-2)
+long-sine-of-spec = tie.close (tie.spec mul-long-sine-half-of long-sine-half-of-requires returns)
