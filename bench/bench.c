@@ -19,6 +19,8 @@ enum { MONOTONIC = 1 }; /* clock_gettime's number for the clock that nobody sets
 #define EDGE 5e9 /* the pen's window, in millimetres either way: some points lie in it and some do not */
 #define DIVISOR 1000
 #define TARGET 42195000 /* in millimetres */
+#define NEAR_H 100000000 /* about the most that H is in a step of a walk */
+#define FAR_H 4000000000000000000 /* and half round the globe */
 
 /* Inputs */
 
@@ -53,15 +55,23 @@ static char usual_output[SENRUHOBI_MOST_BYTES];
 static int32_t near_points[NUMBERS], far_points[NUMBERS];
 static double near_degrees[NUMBERS], far_degrees[NUMBERS];
 
-/* A number from least to most, by splitmix64. */
-static int32_t between(int64_t least, int64_t most)
+/* Numbers of the sizes that H has in near legs and in far ones, by turns. */
+static uint64_t h[CALLS];
+
+/* A number up to most, by splitmix64. */
+static uint64_t up_to(uint64_t most)
 {
     static uint64_t state = SEED;
     uint64_t z = state += 0x9e3779b97f4a7c15;
     z = (z ^ z >> 30) * 0xbf58476d1ce4e5b9;
     z = (z ^ z >> 27) * 0x94d049bb133111eb;
     z ^= z >> 31;
-    return (int32_t)(least + (int64_t)(z % (uint64_t)(most - least + 1)));
+    return z % (most + 1);
+}
+
+static int32_t between(int64_t least, int64_t most)
+{
+    return (int32_t)(least + (int64_t)up_to((uint64_t)(most - least)));
 }
 
 static int32_t some_latitude(void)
@@ -154,6 +164,12 @@ static void make_routes(void)
     make_points(far, far_points, far_degrees);
 }
 
+static void make_h(void)
+{
+    for (int i = 0; i < CALLS; i++)
+        h[i] = up_to(i % 2 ? FAR_H : NEAR_H);
+}
+
 /* Rounds: a call for each input, or one for a route. Each answers the sum of what it was answered, so that no call can be left out. */
 
 static uint64_t bits(double x)
@@ -209,6 +225,19 @@ USUAL(sinusoidal_back, usual_point, sinusoidal_back(in->sinusoidal.x, in->sinuso
 USUAL(leg, usual_number, leg(in->latitude, in->longitude, in->latitude2, in->longitude2), a.refused + a.value)
 USUAL(course, usual_number, course(in->latitude, in->longitude, in->latitude2, in->longitude2), a.refused + a.value)
 USUAL(pen_step, usual_step, STEP, a.refused + a.stroke + a.pen + a.x + a.y)
+
+/* All 32 numbers count, each in its place. To read them is a part of the time. */
+static uint64_t working_sum(const senruhobi_working *w)
+{
+    uint64_t sum = w->root + 3 * w->count;
+    for (int i = 0; i < SENRUHOBI_MOST_PAIRS; i++)
+        sum = 9 * sum + w->steps[i].pair + 3 * w->steps[i].digit + 5 * w->steps[i].rest;
+    return sum;
+}
+
+ROUND(senruhobi, root_steps, uint64_t number = h, uint64_t, senruhobi_working, root_steps(number), working_sum(&a))
+ROUND(twin, root_steps, uint64_t number = h, uint64_t, senruhobi_working, root_steps(number), working_sum(&a))
+ROUND(usual, root_steps, uint64_t number = h, uint64_t, senruhobi_working, root_steps(number), working_sum(&a))
 
 #define READ_EXACT(way, route, kind, numbers)                                                                     \
     static uint64_t way##_##route##_##kind(void)                                                                  \
@@ -306,6 +335,14 @@ typedef struct {
         .round = {[DOOR] = senruhobi_##door##_round, [TWIN] = twin_##door##_round, [USUALLY] = usual_##door##_round, \
                   [IDLE_DOOR] = senruhobi_##door##_round, [IDLE_TWIN] = twin_##door##_round}                        \
     }
+
+/* Of a door that makes no table no call is idle. */
+#define TABLELESS(door)                                                                                             \
+    {                                                                                                               \
+        .name = #door, .calls = CALLS,                                                                              \
+        .round = {[DOOR] = senruhobi_##door##_round, [TWIN] = twin_##door##_round, [USUALLY] = usual_##door##_round} \
+    }
+
 #define READING(title, route)                                                                                          \
     {                                                                                                                  \
         .name = "read_route, " title, .calls = 1,                                                                      \
@@ -331,7 +368,7 @@ typedef struct {
     }
 
 enum {
-    LONG_SINE, LONG_SINE_HALF, SHORT_SINE, CYLINDRICAL, SINUSOIDAL, CYLINDRICAL_BACK, SINUSOIDAL_BACK, LEG, COURSE, PEN_STEP,
+    LONG_SINE, LONG_SINE_HALF, SHORT_SINE, CYLINDRICAL, SINUSOIDAL, CYLINDRICAL_BACK, SINUSOIDAL_BACK, LEG, COURSE, ROOT_STEPS, PEN_STEP,
     MEASURE_NEAR, MEASURE_FAR, READ_FEW, NEAR_JOINED, NEAR_PARTED, FAR_JOINED, FAR_PARTED, WRITE_FEW, WRITE_NEAR, WRITE_FAR, JOBS
 };
 
@@ -345,6 +382,7 @@ static job jobs[JOBS] = {
     [SINUSOIDAL_BACK] = EACH(sinusoidal_back),
     [LEG] = EACH(leg),
     [COURSE] = EACH(course),
+    [ROOT_STEPS] = TABLELESS(root_steps),
     [PEN_STEP] = EACH(pen_step),
     [MEASURE_NEAR] = MEASURING(near),
     [MEASURE_FAR] = MEASURING(far),
@@ -453,11 +491,12 @@ static void print_rows(void)
     print_point("a point inside it, near", &jobs[WRITE_NEAR]);
     print_point("a point inside it, far", &jobs[WRITE_FAR]);
     printf("\n"
-           "door    the library's own function; twin: the same rules in plain C; usual: sin, asin, atan2, strtod, snprintf, doubles\n"
+           "door    the library's own function; twin: the same rules in plain C; usual: sin, asin, atan2, sqrt, strtod, snprintf, doubles\n"
            "table   what a call pays to make the table of sines, if it makes one: an idle call (refused, or without points) less the twin's\n"
            "rest    door less table; no ratio below a twentieth of the table, where it is mostly noise\n"
            "few     %d points of a walk; near: %d of them; far: %d points from all round the globe\n"
            "joined  a leg into each point but the first; parted: `g` between all points, and no leg\n"
+           "roots   of numbers as great as H is in near legs and in far ones, by turns\n"
            "a leg   (joined - parted) / %d, plus the cost of the `g` line that stands in its place in the parted text\n"
            "a point a call of write_route / %d, with the lines before the first point\n",
            FEW_POINTS, POINTS, POINTS, POINTS - 1, POINTS);
@@ -487,6 +526,7 @@ int main(int arguments, char **words)
     printf("seed %d; the best of %d\n\n", SEED, repetitions);
     make_inputs();
     make_routes();
+    make_h();
     for (int i = 0; i < JOBS; i++)
         prepare(&jobs[i], arguments > 1 ? 0 : SECTION);
     /* turn by turn, so that a slow moment of the machine falls on all alike */

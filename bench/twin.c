@@ -210,20 +210,51 @@ senruhobi_point twin_sinusoidal_back(int64_t x, int64_t y, int32_t meridian)
     return x ? nobody() : (senruhobi_point){.latitude = latitude, .longitude = meridian};
 }
 
-/* Length of a leg */
+/* Root by the school method */
 
-/* The greatest number whose square is at most h, by Newton's steps down from a power of two that is past it. */
+#define FIRST_POWER 1000000000000000000 /* of 100: the place of the first pair in the longest numbers */
+
+/* The root of the pairs of digits that are brought down so far, and what is left of them. */
+typedef struct { uint64_t root, rest; } working;
+
+/* With one pair more, and one digit: the greatest d with (20 × root + d) × d at most the rest. Since (t + d) × d + 25 is
+   (t + 10) × d + (5 - d)², the digit that is tried first is never too small; the longer the root, the more seldom it is too great. */
+static inline working bring_down(working w, uint64_t pair)
+{
+    uint64_t rest = 100 * w.rest + pair, t = 20 * w.root, d = (rest + 25) / (t + 10);
+    while ((t + d) * d > rest)
+        d--;
+    return (working){10 * w.root + d, rest - (t + d) * d};
+}
+
+/* Unrolled, so that the powers are constants and no pair waits for another. */
 static uint64_t root(uint64_t h)
 {
-    if (h == 0)
-        return 0;
-    uint64_t r, next = (uint64_t)1 << (64 - __builtin_clzll(h) + 1) / 2;
-    do {
-        r = next;
-        next = (r + h / r) / 2;
-    } while (next < r);
-    return r;
+    working w = {0};
+#pragma unroll
+    for (uint64_t power = FIRST_POWER; power; power /= 100)
+        if (h >= power)
+            w = bring_down(w, h / power % 100);
+    return w.root;
 }
+
+/* 0 has a pair too. */
+senruhobi_working twin_root_steps(uint64_t number)
+{
+    senruhobi_working answer = {0};
+    working w = {0};
+#pragma unroll
+    for (uint64_t power = FIRST_POWER; power; power /= 100)
+        if (number >= power || power == 1) {
+            uint64_t pair = number / power % 100;
+            w = bring_down(w, pair);
+            answer.steps[answer.count++] = (senruhobi_root_step){pair, w.root % 10, w.rest};
+        }
+    answer.root = w.root;
+    return answer;
+}
+
+/* Length of a leg */
 
 /* The length rule's short sine of an angle in half ticks, and its short cosine. Their unit is 2 × 10^9. */
 static uint64_t leg_sine(uint32_t half_ticks)

@@ -1,6 +1,6 @@
 /* The usual floating-point way: sin, cos, asin, atan2 and sqrt of the C library, the haversine, numbers read by strtod and written by snprintf.
-   Ranges are checked, and nothing else that the document asks: answers are near, not exact, a text may be read that should be refused, and
-   an output may be half written when its room ends. */
+   Ranges are checked, and nothing else that the document asks: answers are near, not exact, but for a root's; a text may be read that should
+   be refused, and an output may be half written when its room ends. */
 #include "usual.h"
 
 double asin(double);
@@ -115,6 +115,25 @@ usual_number usual_course(double latitude1, double longitude1, double latitude2,
     double d = cos(latitude1 * RADIAN) * sin(latitude2 * RADIAN) - sin(latitude1 * RADIAN) * cosine2 * cos(east);
     double course = atan2(n, d) / RADIAN;
     return n == 0 && d == 0 ? (usual_number){.refused = 1} : (usual_number){.value = course < 0 ? course + 360 : course};
+}
+
+/* By sqrt, and one less where the number has more bits than a double and was rounded up to a square. */
+static uint64_t whole_root(uint64_t n)
+{
+    uint64_t root = (uint64_t)sqrt((double)n);
+    return root > 0xffffffff || root * root > n ? root - 1 : root;
+}
+
+/* Not the school method: sqrt, once. The digits of the root are those that the steps find, and a step's rest is what its beginning of the
+   number has over the square of its beginning of the root. */
+senruhobi_working usual_root_steps(uint64_t number)
+{
+    senruhobi_working w = {.root = whole_root(number), .count = 1};
+    for (uint64_t n = number; n >= 100; n /= 100)
+        w.count++;
+    for (uint64_t n = number, root = w.root, i = w.count; i-- > 0; n /= 100, root /= 10)
+        w.steps[i] = (senruhobi_root_step){n % 100, root % 10, n - root * root};
+    return w;
 }
 
 usual_number usual_measure(const double *points, size_t numbers)

@@ -18,6 +18,7 @@ usual_point usual_cylindrical_back(double x, double y, double meridian);
 usual_point usual_sinusoidal_back(double x, double y, double meridian);
 usual_number usual_leg(double latitude1, double longitude1, double latitude2, double longitude2);
 usual_number usual_course(double latitude1, double longitude1, double latitude2, double longitude2);
+senruhobi_working usual_root_steps(uint64_t number);
 usual_number usual_measure(const double *points, size_t numbers);
 usual_reading usual_read_route(const char *text, double *buffer, size_t numbers);
 usual_written usual_write_route(const double *points, size_t numbers, int has_target, double target, int comma, char *out, size_t bytes);

@@ -1,7 +1,8 @@
-/* Senruhobi's doors for C: sines, map sheets, lengths, courses, route texts and the pen of the route desk. The library is for x86-64 Linux.
+/* Senruhobi's doors for C: sines, map sheets, lengths, courses, roots, route texts and the pen of the route desk. The library is for x86-64 Linux.
  *
  * Each door answers for all arguments; nobody has to check first. In `refusal` 0 means accepted, and any other number says why not: see
- * `senruhobi_refusal`. Beside a refusal every other field is 0, but for a text's line and the pen, and no buffer is written to.
+ * `senruhobi_refusal`. Beside a refusal every other field is 0, but for a text's line and the pen, and no buffer is written to. Where nothing
+ * can be refused, as with roots, there is no such field.
  *
  * Angles are in ticks, ten-millionths of a degree: latitude from -900000000 to 900000000, longitude and central meridian from
  * -1800000000 up to but not including 1800000000. One door takes half ticks. Lengths are in millimetres.
@@ -25,7 +26,7 @@
  *
  * Threads: the library has no data that is written to and calls nothing but memcpy and memset, so every door may be called from any thread
  * at any time, with buffers that no other thread writes to meanwhile.
- * Stack: a call takes some 37 KB, a reading some 49 KB. Nothing is allocated.
+ * Stack: a call takes some 37 KB, a reading some 49 KB, at the most. Nothing is allocated.
  * Pointers: a text and an output may lie at any address, numbers lie as int32_t does, at a multiple of 4. A text and the buffer lent beside
  * it must not overlap, nor a point buffer and an output. With a count of 0 a pointer is not looked at and may be null; with any other it
  * points to at least so many.
@@ -67,7 +68,8 @@ enum {
     SENRUHOBI_MOST_BYTES = 60000, /* of a route's text */
     SENRUHOBI_NUMBERS = 3, /* of a point in a buffer: latitude, longitude, and 1 where the pen was up before it, else 0 */
     SENRUHOBI_MOST_POINTS = 1000, /* of a route */
-    SENRUHOBI_MOST_NUMBERS = SENRUHOBI_NUMBERS * SENRUHOBI_MOST_POINTS /* room for every route */
+    SENRUHOBI_MOST_NUMBERS = SENRUHOBI_NUMBERS * SENRUHOBI_MOST_POINTS, /* room for every route */
+    SENRUHOBI_MOST_PAIRS = 10 /* of decimal digits: no uint64_t has more than 20 digits */
 };
 
 /* What a step of the pen draws. */
@@ -78,6 +80,8 @@ typedef struct { uint32_t refusal; int64_t x, y; } senruhobi_place;
 typedef struct { uint32_t refusal; int32_t latitude, longitude; } senruhobi_point;
 typedef struct { uint32_t refusal; uint64_t millimetres; } senruhobi_length;
 typedef struct { uint32_t refusal; uint32_t ticks; } senruhobi_direction;
+typedef struct { uint64_t pair, digit, rest; } senruhobi_root_step;
+typedef struct { uint64_t root, count; senruhobi_root_step steps[SENRUHOBI_MOST_PAIRS]; } senruhobi_working;
 typedef struct { uint32_t refusal, line, points, has_target; uint64_t length, target; } senruhobi_reading;
 typedef struct { uint32_t refusal; uint64_t bytes; } senruhobi_written;
 typedef struct { uint32_t refusal, stroke; double x, y; uint32_t pen /* 0 up, 1 down */; } senruhobi_step;
@@ -103,6 +107,12 @@ senruhobi_length senruhobi_leg(int32_t latitude1, int32_t longitude1, int32_t la
 /* The course at which a leg starts, in ticks east of north, from 0 up to but not including 3600000000, which is more than an int32_t holds.
  * Refusals: 6 and 7 of the first point, then of the second, then 18. */
 senruhobi_direction senruhobi_course(int32_t latitude1, int32_t longitude1, int32_t latitude2, int32_t longitude2);
+
+/* The square root of a number, the greatest whole number whose square is at most that number, and the steps of the school method that lead to
+ * it, two decimal digits at a time. `count` is the number of steps, one for each pair of digits from the left: the pair, the digit of the root
+ * that was found, and the rest after the subtraction. The pairs are made from the right, so that the first may be a single digit; 0 has one
+ * pair. Behind the last step all numbers are 0. Nothing is refused. docs/SCHOOL_ROOT.md goes through an example. */
+senruhobi_working senruhobi_root_steps(uint64_t number);
 
 /* The length of a point buffer, the sum of its legs; the leg into a point whose third number is 1 is not counted. `numbers` is the whole
  * buffer's, SENRUHOBI_NUMBERS a point. Refusals: 17, 9, then 6 and 7 point by point. */

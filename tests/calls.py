@@ -25,6 +25,11 @@ EDGE_LEGS = [
     (866_833_467, 0, 866_833_467, 281_148_563), (-861_324_888, 0, -861_324_888, 41_285_281), (105_358_330, 0, 105_358_330, 1_784_163_729),
     (-64_169, 0, -64_169, 57_319_680), (8_486, 0, 8_486, 1_799_993_434), (898_816_796, 0, 898_816_796, 26_934_513),
 ]
+MOST_ROOT = 2**32 - 1
+# Roots of every length: a digit again and again, zeros or nines behind and between digits, the last ones, and those of half the globe and of 2^63.
+SOME_ROOTS = {digit * (10**k // 9) for digit in range(1, 10) for k in range(1, 11)}
+SOME_ROOTS |= {first * 10**k + last for first in (1, 4) for k in range(1, 10) for last in (-1, 0, 1, 5, 9)}
+SOME_ROOTS |= {MOST_ROOT - off for off in (0, 1, 5, 95, 7_295)} | {2 * 10**9, math.isqrt(2**63)}
 
 
 # At the limits
@@ -91,6 +96,19 @@ def courses():
         for near, far in ((latitude, 0), (-latitude, -HALF_TURN)):
             yield 'course', latitude, 0, near + north, turned(far + east)
             yield 'course', -latitude, -HALF_TURN, -near + north, turned(far + east - HALF_TURN)
+
+
+def roots():
+    """Every number of up to four digits, so that every first digit is followed by every second one, with every rest; the ends of every count of
+    digits and of bits; and the numbers about squares, up to the next square.
+
+    Just below squares the digit is not the quotient of the rest and 20 × root. Where a root ends in q, the quotient is q already in the q² numbers
+    before its square; where it ends in 0, it is 10 or more in the 100 numbers before. Taken for 9 at the most, it is one too great there, but
+    up to three behind a root of 1, and two behind 2 or 3: so a search over all numbers of up to six digits says."""
+    ends = {base**k + off for base in (2, 10) for k in range(64) for off in (-1, 0, 1)}
+    about = {root**2 + off for root in SOME_ROOTS if root <= MOST_ROOT for off in (*range(-101, 3), 2 * root - 1, 2 * root, 2 * root + 1)}
+    numbers = {*range(10_000), *ends, *about, *range(2**64 - 100, 2**64)}
+    yield from (('root_steps', number) for number in sorted(numbers) if 0 <= number < 2**64)
 
 
 def steps():
@@ -240,6 +258,14 @@ def random_leg(some):
     return (some.choice(['leg', 'course']), latitude, longitude, *map(fitting, second))
 
 
+def random_root(some):
+    """The steps of a number with any count of digits: any number, one that ends in zeros, or one about a square."""
+    number = some.randrange(min(10**some.randint(1, 20), 2**64))
+    root, zeros = math.isqrt(number), 10**some.randrange(len(str(number)))
+    number = some.choice([number, number, number // zeros * zeros, root**2 + some.randint(-100, 2), root**2 + 2 * root])
+    return 'root_steps', max(0, min(number, 2**64 - 1))
+
+
 def edges(some, at):
     """A lower and an upper edge, often at a number or one double beside it."""
     if some.random() < 0.02:
@@ -281,7 +307,7 @@ def run_of_steps(some, count):
 
 def random_calls(some, count):
     """So many calls of the doors that take numbers, which take turns."""
-    turns = itertools.cycle([random_sine, random_half_sine, random_place, random_back, random_leg, random_leg, random_step])
+    turns = itertools.cycle([random_sine, random_half_sine, random_place, random_back, random_leg, random_leg, random_root, random_step])
     return [call(some) for call in itertools.islice(turns, count)]
 
 

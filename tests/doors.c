@@ -139,6 +139,13 @@ static void say_step(senruhobi_step r)
     printf("%u %u %016lx %016lx %u", r.refusal, r.stroke, x.bits, y.bits, r.pen);
 }
 
+static void say_working(senruhobi_working r)
+{
+    printf("%lu %lu", r.root, r.count);
+    for (int k = 0; k < SENRUHOBI_MOST_PAIRS; k++)
+        printf(" %lu %lu %lu", r.steps[k].pair, r.steps[k].digit, r.steps[k].rest);
+}
+
 static void say_sine(senruhobi_sine r) { printf("%u %ld", r.refusal, r.value); }
 static void say_place(senruhobi_place r) { printf("%u %ld %ld", r.refusal, r.x, r.y); }
 static void say_point(senruhobi_point r) { printf("%u %d %d", r.refusal, r.latitude, r.longitude); }
@@ -223,6 +230,7 @@ int main(void)
 {
     int32_t a, b, c, d;
     int64_t x, y;
+    uint64_t number;
     uint32_t pen, divisor;
     union number left, right, bottom, top;
     char *text;
@@ -257,6 +265,8 @@ int main(void)
             say_length(senruhobi_leg(a, b, c, d));
         else if (is("course") && scanf("%d%d%d%d", &a, &b, &c, &d) == 4)
             say_direction(senruhobi_course(a, b, c, d));
+        else if (is("root_steps") && scanf("%lu", &number) == 1)
+            say_working(senruhobi_root_steps(number));
         else if (is("pen_step") && scanf("%u%lx%lx%lx%lx%u%d%d%d%d", &pen, &left.bits, &right.bits, &bottom.bits, &top.bits, &divisor,
                                          &a, &b, &c, &d) == 10)
             say_step(senruhobi_pen_step(pen, left.value, right.value, bottom.value, top.value, divisor, a, b, c, d));

@@ -169,6 +169,41 @@ DIRECTIONS = {
     **{('course', 0, 0, 0, longitude): (7, 0) for longitude in NO_LONGITUDES},
 }
 
+# The root of each number, and its steps: "the pair, the digit and the rest after the subtraction".
+ROOTS = {
+    # "A square field has 55,000 square metres."
+    55_000: (234, [(5, 2, 1), (50, 3, 21), (0, 4, 244)]),
+    # "0 has one pair"; a pair, and the first number with two
+    0: (0, [(0, 0, 0)]), 1: (1, [(1, 1, 0)]), 2: (1, [(2, 1, 1)]), 3: (1, [(3, 1, 2)]), 4: (2, [(4, 2, 0)]), 9: (3, [(9, 3, 0)]),
+    10: (3, [(10, 3, 1)]), 80: (8, [(80, 8, 16)]), 81: (9, [(81, 9, 0)]), 99: (9, [(99, 9, 18)]), 100: (10, [(1, 1, 0), (0, 0, 0)]),
+    # a square, 234², and its neighbours, up to the next one: the rest is at most twice the root
+    54_755: (233, [(5, 2, 1), (47, 3, 18), (55, 3, 466)]), 54_756: (234, [(5, 2, 1), (47, 3, 18), (56, 4, 0)]),
+    54_757: (234, [(5, 2, 1), (47, 3, 18), (57, 4, 1)]), 55_224: (234, [(5, 2, 1), (52, 3, 23), (24, 4, 468)]),
+    55_225: (235, [(5, 2, 1), (52, 3, 23), (25, 5, 0)]),
+    # the rest divided by 20 × root is 9, 10 and 14
+    280: (16, [(2, 1, 1), (80, 6, 24)]), 300: (17, [(3, 1, 2), (0, 7, 11)]), 399: (19, [(3, 1, 2), (99, 9, 38)]),
+    # zeros inside a root and at its end; 1005² and one less
+    1_010_025: (1005, [(1, 1, 0), (1, 0, 1), (0, 0, 100), (25, 5, 0)]), 1_010_024: (1004, [(1, 1, 0), (1, 0, 1), (0, 0, 100), (24, 4, 2008)]),
+    640_009: (800, [(64, 8, 0), (0, 0, 0), (9, 0, 9)]),
+    # 100^k is the square of 10^k; one less has the root 10^k - 1 and twice that for a rest, after every pair
+    **{100**k: (10**k, [(1, 1, 0), *k * [(0, 0, 0)]]) for k in range(2, 10)},
+    **{100**k - 1: (10**k - 1, [(99, 9, 2 * (10**at - 1)) for at in range(1, k + 1)]) for k in range(2, 10)},
+    # H of half the globe, and what no H passes: two squares of at most 2×10^9
+    4 * 10**18: (2 * 10**9, [(4, 2, 0), *9 * [(0, 0, 0)]]),
+    8 * 10**18: (2_828_427_124, [(8, 2, 4), (0, 8, 16), (0, 2, 476), (0, 8, 2_416), (0, 4, 15_344), (0, 2, 403_036), (0, 7, 705_671),
+                                 (0, 1, 13_998_559), (0, 2, 268_485_056), (0, 4, 4_221_088_624)]),
+    # the greatest root, at its square and one below
+    **{4_294_967_295**2 - off: (4_294_967_295 - off, [
+        (18, 4, 2), (44, 2, 80), (67, 9, 426), (44, 4, 8_308), (6, 9, 57_805), (51, 6, 626_635), (19, 7, 2_534_030), (61, 2, 81_604_377),
+        (70, 9, 429_496_729), last]) for off, last in ((0, (25, 5, 0)), (1, (24, 4, 8_589_934_588)))},
+    # the greatest number
+    2**64 - 1: (4_294_967_295, [(18, 4, 2), (44, 2, 80), (67, 9, 426), (44, 4, 8_308), (7, 9, 57_806), (37, 6, 626_721), (9, 7, 2_542_620),
+                                (55, 2, 82_463_371), (16, 9, 515_396_075), (15, 5, 8_589_934_590)]),
+}
+# "behind the last step there are zeros"; "the greatest number has ten" pairs
+WORKINGS = {('root_steps', number): (root, len(steps), *itertools.chain(*steps), *(10 - len(steps)) * (0, 0, 0))
+            for number, (root, steps) in ROOTS.items()}
+
 # "point 60° N 10° E .. Move with the doubles 555974635/1000 and 6671695620/1000"
 HERE, X, Y = (600_000_000, 100_000_000), 555_974_635, 6_671_695_620
 EVERYWHERE = (-INF, INF, -INF, INF)
@@ -490,5 +525,5 @@ OTHER_WAYS = [
     (route('point', 't 000.000', 'p 090.0 -180.0', 'g', 'p 000 179.9999990'), route('point', 't 0', 'p 90 -180', 'g', 'p 0 179.999999')),
     (route('point', 't 999.90'), route('point', 't 999.9')), (route('comma', 'p 007 100'), route('comma', 'p 7 100')),
 ]
-FIGURES = [*SINES.items(), *HALF_SINES.items(), *SHEETS.items(), *BACK.items(), *BOTH_WAYS.items(), *DIRECTIONS.items(), *STEPS, *orders(),
-           *WRITINGS, *MEASURES, *readings()]
+FIGURES = [*SINES.items(), *HALF_SINES.items(), *SHEETS.items(), *BACK.items(), *BOTH_WAYS.items(), *DIRECTIONS.items(), *WORKINGS.items(), *STEPS,
+           *orders(), *WRITINGS, *MEASURES, *readings()]

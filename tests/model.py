@@ -1,9 +1,10 @@
-"""The document's rules once more, in plain Python: sines, the two sheets, the length and the course of a leg, the route text, which is read and
-written, and its report, the pen, and the doors for C over all of these.
+"""The document's rules once more, in plain Python: sines, the two sheets, the length and the course of a leg, the steps of a root, the route
+text, which is read and written, and its report, the pen, and the doors for C over all of these.
 
 Each rule is written from the document's sentence, which stands above it in quotes, and not from the Rattle definitions. So the tests hold
 the compiled code to a second reading of the same page. What refuses a point buffer, and how a route is written, is quoted from the first of
-the later requests, which angles have a sine from the second, the course from the third, and half ticks from the fourth. Nothing here is quick.
+the later requests, which angles have a sine from the second, the course from the third, and half ticks from the fourth. The fifth has the
+root found "by the school method": its steps are quoted from the page that shows them, docs/SCHOOL_ROOT.md. Nothing here is quick.
 """
 import math
 import re
@@ -26,6 +27,7 @@ MOST_NUMBERS = NUMBERS * MOST_POINTS
 MOST_DIVISOR = 1_000_000
 METRE = 1_000  # millimetres
 MOST_TARGET = 999_999_000
+MOST_PAIRS = 10  # of digits: "Every number of 64 bits has an answer", and 2^64 - 1 has 20 digits
 
 
 def dropped(number, by):
@@ -203,6 +205,43 @@ def legs_of(points):
 def length_of(points):
     """The millimetres of a route."""
     return sum(leg(*ends) for ends in legs_of(points))
+
+
+# Root, by the school method
+
+def pairs_of(number):
+    # "Part the digits of the number into pairs, from the right. The first pair may be a single digit."
+    digits = str(number)
+    return [int(pair) for pair in re.findall('..', digits.zfill(len(digits) + len(digits) % 2))]
+
+
+def brought_down(rest, pair):
+    # "write its two digits behind the rest"
+    return int(f'{rest}{pair:02}')
+
+
+def taken_away(root, digit):
+    # "(20 × root + d) × d"
+    return (20 * root + digit) * digit
+
+
+def digit_of(root, rest):
+    # "the greatest digit d, from 0 to 9, with (20 × root + d) × d at most the rest"
+    return max(d for d in range(10) if taken_away(root, d) <= rest)
+
+
+def root_steps(number):
+    """The root and its steps, "two decimal digits at a time": each has the pair, the digit and the rest."""
+    # "Start with a root of 0 and a rest of 0, take the pairs from the left"
+    root, rest, steps = 0, 0, []
+    for pair in pairs_of(number):
+        rest = brought_down(rest, pair)
+        digit = digit_of(root, rest)
+        # "Subtract that product from the rest." "Append the digit to the root."
+        rest -= taken_away(root, digit)
+        root = int(f'{root}{digit}')
+        steps.append((pair, digit, rest))
+    return root, steps
 
 
 # Course of a leg
@@ -492,6 +531,14 @@ def course_door(latitude, longitude, latitude2, longitude2):
     return (18, 0) if ticks is None else (0, ticks)
 
 
+def root_door(number):
+    """The root, the number of steps, and the steps. "Nothing is refused", so no refusal is among the fields."""
+    root, steps = root_steps(number)
+    # "behind the last step there are zeros"
+    behind = (MOST_PAIRS - len(steps)) * [(0, 0, 0)]
+    return (root, len(steps), *(value for step in steps + behind for value in step))
+
+
 def bad_thirds(numbers):
     # "17 buffer not a multiple of three, a third number other than 0 or 1, or a first one of 0": over all of it
     thirds = numbers[2::NUMBERS]
@@ -567,6 +614,7 @@ DOORS = {
     'sinusoidal_back': lambda *place: back_door(sinusoidal_back, *place),
     'leg': leg_door,
     'course': course_door,
+    'root_steps': root_door,
     'measure': measure_door,
     'read_route': read,
     'write_route': write_door,

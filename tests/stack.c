@@ -41,6 +41,7 @@ int main(void)
     SAY(sinusoidal_back, 0, 1, 3);
     SAY(leg, 1, 2, 3, 4);
     SAY(course, 1, 2, 3, 4);
+    SAY(root_steps, 18446744073709551615u);
     SAY(read_route, (const uint8_t *)text, bytes, points, SENRUHOBI_MOST_NUMBERS);
     SAY(measure, points, SENRUHOBI_MOST_NUMBERS);
     SAY(write_route, points, SENRUHOBI_MOST_NUMBERS, 1, 123456000, 1, (uint8_t *)text, sizeof text, 0);

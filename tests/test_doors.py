@@ -1,5 +1,6 @@
 """The doors for C, called through the driver doors.c: on the documents' figures, at the limits of every argument, over every row of the
-table, with texts, buffers and outputs wherever they may lie, and on random calls; and what was written is read again.
+table, with texts, buffers and outputs wherever they may lie, and on random calls; and what was written is read again, and the steps of a
+root are added up.
 
 Answers are compared as lines, which have every field and every number or byte of what was lent. What the documents say holds the doors and
 the model; to any other call the doors have to answer what the model answers.
@@ -24,12 +25,13 @@ from test_routes import COUNT, ROUTES, SEED
 
 # writings into an output that their text fills
 FITTING = [call for call, (refusal, size, *_) in WRITINGS if not refusal and call[-2] == size]
-# the refusals of each door; 0 is none
+# the refusals of each door; 0 is none. The steps of a root are never refused, and have no field for it
 REFUSALS = {
     'long_sine': {0, 6}, 'short_sine': {0, 6}, 'long_sine_half': {0, 6}, 'cylindrical': {0, 6, 7, 14}, 'sinusoidal': {0, 6, 7, 14},
     'cylindrical_back': {0, 11, 14}, 'sinusoidal_back': {0, 11, 14}, 'leg': {0, 6, 7}, 'course': {0, 6, 7, 18}, 'measure': {0, 6, 7, 9, 17},
     'read_route': set(range(11)), 'write_route': {0, 6, 7, 9, 15, 16, 17}, 'pen_step': {0, 6, 7, 12, 13, 14},
 }
+NEVER_REFUSED = {'root_steps'}
 
 BAD_POINT, BAD_POINTS, BAD_THIRDS, DRAWN, GREATEST_ANGLE = model.bad_point, model.bad_points, model.bad_thirds, model.drawn, model.greatest_angle
 LINES_OF, LONG_SINE, MEASURE_DOOR, NUMBER_OF, PEN_DOOR = model.lines_of, model.long_sine, model.measure_door, model.number_of, model.pen_door
@@ -37,6 +39,7 @@ NUMBER_TEXT, READ, ROUTE_TEXT, WRITE_DOOR = model.number_text, model.read, model
 ANGLE_OF_RATIO, COURSE, COURSE_NUMBERS = model.angle_of_ratio, model.course, model.course_numbers
 IN_QUARTER, OFFSET_COSINE = model.in_quarter, model.offset_cosine
 HALF_DIFFERENCES, HALF_DOOR, LEG_NUMBER, LONG_SINE_HALF = model.half_differences, model.half_door, model.leg_number, model.long_sine_half
+DIGIT_OF, PAIRS_OF, ROOT_DOOR, ROOT_STEPS = model.digit_of, model.pairs_of, model.root_door, model.root_steps
 
 
 def rounded_sinusoidal(latitude, longitude, meridian):
@@ -110,6 +113,36 @@ def course_unless_equal(*leg):
     """18 for equal points alone."""
     n, d = model.course_numbers(*leg)
     return None if leg[:2] == leg[2:] else model.in_quarter(model.angle_of_ratio(n, d), n, d)
+
+
+def quotient(root, rest):
+    """The rest divided by 20 × root, not tried as a digit."""
+    return max(0, min(rest // (20 * root), 9)) if root else DIGIT_OF(root, rest)
+
+
+def tried_once(root, rest):
+    """The same, one less where it is too great, and then not tried again."""
+    digit = quotient(root, rest)
+    return max(0, digit - 1) if model.taken_away(root, digit) > rest else digit
+
+
+def rests_before(number):
+    """Each rest as it is before the subtraction."""
+    root, steps = ROOT_STEPS(number)
+    rests = [0, *(rest for *_, rest in steps)]
+    return root, [(pair, digit, model.brought_down(rest, pair)) for (pair, digit, _), rest in zip(steps, rests)]
+
+
+def repeated_behind(number):
+    """The last step again behind itself."""
+    root, count, *steps = ROOT_DOOR(number)
+    return (root, count, *steps[:3 * count], *(model.MOST_PAIRS - count) * steps[3 * count - 3:3 * count])
+
+
+def zeros_first(number):
+    """The zeros before the first step, and not behind the last."""
+    root, count, *steps = ROOT_DOOR(number)
+    return (root, count, *steps[3 * count:], *steps[:3 * count])
 
 
 def joined_measure(numbers):
@@ -253,6 +286,33 @@ WRONG = [
     ('course', course_unless_equal),
     ('course', lambda *leg: COURSE(*leg) if all(COURSE_NUMBERS(*leg)) else None),
     ('DOORS', {**model.DOORS, 'course': lambda *leg: (BAD_POINT(*leg[2:]), 0) if BAD_POINT(*leg[2:]) else model.course_door(*leg)}),
+    # a digit one too great, one too small, and not tried enough; one less at a square, and in a root of ten digits one more right below it;
+    # another product
+    ('digit_of', lambda root, rest: DIGIT_OF(root, max(rest, 0)) + 1),
+    ('digit_of', lambda root, rest: max(DIGIT_OF(root, rest) - 1, 0)),
+    ('digit_of', quotient),
+    ('digit_of', tried_once),
+    ('digit_of', lambda root, rest: DIGIT_OF(root, max(rest - 1, 0))),
+    ('digit_of', lambda root, rest: DIGIT_OF(root, rest + (root >= 10**8))),
+    ('taken_away', lambda root, digit: (10 * root + digit) * digit),
+    ('taken_away', lambda root, digit: 20 * root * digit),
+    # a digit at a time; pairs from the left, as many for every number, without those of zeros; 0 without a pair; 32 bits of a number, 63, and a float
+    ('pairs_of', lambda number: [int(digit) for digit in str(number)]),
+    ('pairs_of', lambda number: [int(str(number)[at:at + 2]) for at in range(0, len(str(number)), 2)]),
+    ('pairs_of', lambda number: [number // 100**k % 100 for k in reversed(range(model.MOST_PAIRS))]),
+    ('pairs_of', lambda number: [pair for pair in PAIRS_OF(number) if pair] or [0]),
+    ('pairs_of', lambda number: PAIRS_OF(number) if number else []),
+    ('pairs_of', lambda number: PAIRS_OF(number % 2**32)),
+    ('pairs_of', lambda number: PAIRS_OF(min(number, 2**63 - 1))),
+    ('pairs_of', lambda number: PAIRS_OF(int(float(number)))),
+    # the rest not brought down, and as it was before; the digits or the steps the other way round; no zeros behind
+    ('brought_down', lambda rest, pair: pair),
+    ('root_steps', rests_before),
+    ('root_steps', lambda number: (int(str(ROOT_STEPS(number)[0])[::-1]), ROOT_STEPS(number)[1])),
+    ('root_steps', lambda number: (ROOT_STEPS(number)[0], ROOT_STEPS(number)[1][::-1])),
+    *(('DOORS', {**model.DOORS, 'root_steps': wrong}) for wrong in (repeated_behind, zeros_first)),
+    # the root worked out in floats
+    ('root_steps', lambda number: (int(math.sqrt(number)), ROOT_STEPS(number)[1])),
     ('MOST_BYTES', 59_999),
     ('MOST_POINTS', 999),
     ('OTHER', {b'.': b'!', b',': b'!'}),
@@ -304,13 +364,15 @@ WRONG = [
     ('DOORS', {**model.DOORS, 'write_route': lambda numbers, has_target, target, comma, *more: WRITE_DOOR(
         numbers, has_target, target, comma % 256, *more)}),
 ]
-# what chance brings seldom or never: the sine of 0 half ticks refused; m, the last product and r worked out in floats; third numbers behind the
-# 1,000th point not judged; 6 of all points before 7 of any; one byte or one target taken for another
+# what chance brings seldom or never: the sine of 0 half ticks refused; m, the last product and r worked out in floats; a root of ten
+# digits one less at its square; third numbers behind the 1,000th point not judged; 6 of all points before 7 of any; one byte or one target taken
+# for another
 WRONG_SELDOM = [
     ('half_ticks_in_range', lambda half_ticks: 0 < half_ticks <= QUARTER_IN_HALVES),
     ('leg_number', number_by(product=lambda cosine, cosine2: int(cosine * cosine2 / LEG_UNIT))),
     ('leg_number', number_by(last=lambda m, sine: int(m * sine**2 / LEG_UNIT))),
     ('leg', lambda *leg: GREATEST_ANGLE(int(math.sqrt(LEG_NUMBER(*leg)))) * model.MILLIMETRES // model.DEGREE),
+    ('digit_of', lambda root, rest: DIGIT_OF(root, rest - (root >= 10**8 and rest > 0))),
     ('bad_thirds', lambda numbers: BAD_THIRDS(numbers if len(numbers) % NUMBERS else numbers[:model.MOST_NUMBERS])),
     ('bad_points', lambda points: BAD_POINTS([(point[0], 0, 0) for point in points]) or BAD_POINTS(points)),
     ('number_of', lambda field, *more, **rule: NUMBER_OF(field.replace(b'\xb5', b'5'), *more, **rule)),
@@ -368,6 +430,36 @@ def rows_in(given, said):
     return found
 
 
+def working_of(line):
+    """The numbers of an answer of `root_steps`: the root, how many steps there are, and all that there is room for."""
+    root, count, *numbers = map(int, line.split())
+    return root, count, [tuple(numbers[at:at + 3]) for at in range(0, len(numbers), 3)]
+
+
+def broken(number, line):
+    """What an answer of `root_steps` does not keep of these sentences, which hold without a look at the model."""
+    root, count, steps = working_of(line)
+    brought = found = 0
+    for pair, digit, rest in steps[:count]:
+        brought, found = 100 * brought + pair, 10 * found + digit
+        if not (0 <= pair <= 99 and 0 <= digit <= 9):
+            yield 'a pair has two digits, and gives one'
+        if found**2 + rest != brought:
+            yield 'root² + rest is the part brought down so far'
+        if not 0 <= rest <= 2 * found:
+            yield 'the rest is at most twice the root'
+    if brought != number:
+        yield 'the pairs side by side are the number'
+    if found != root:
+        yield 'the digits side by side are the root'
+    if root != math.isqrt(number):
+        yield 'the root is the greatest whole number whose square is at most the number'
+    if not 1 <= count <= model.MOST_PAIRS or (steps[0][0] == 0 and count > 1):
+        yield 'there are as many pairs as the digits need, and one for 0'
+    if any(map(any, steps[count:])):
+        yield 'behind the last step there are zeros'
+
+
 def answered_runs(some, count, length):
     """Runs of steps with the doors' answers: a new pen is up, and each step gets the pen that the step before it answered."""
     given, said, pens = [], [], count * [UP]
@@ -417,12 +509,17 @@ class Compared:
     def test_every_answer_comes_up(self):
         found = {door: set() for door in REFUSALS}
         for (door, *_), line in zip(self.given, self.said):
-            found[door].add(int(line.split()[0]))
+            if door not in NEVER_REFUSED:
+                found[door].add(int(line.split()[0]))
         self.assertEqual(found, REFUSALS)
         strokes = {line.split()[1] for (door, *_), line in zip(self.given, self.said) if door == 'pen_step'}
         self.assertEqual(strokes, {'0', '1', '2'})
         quarters = {int(line.split()[1]) // QUARTER for (door, *_), line in zip(self.given, self.said) if door == 'course' and line.split()[0] == '0'}
         self.assertEqual(quarters, {0, 1, 2, 3})
+        workings = [working_of(line) for (door, *_), line in zip(self.given, self.said) if door == 'root_steps']
+        self.assertEqual({count for _, count, _ in workings}, set(range(1, model.MOST_PAIRS + 1)))
+        digits = {(at, steps[at][1]) for _, count, steps in workings for at in range(1, count)}
+        self.assertEqual(digits, set(itertools.product(range(1, model.MOST_PAIRS), range(10))))
 
     def test_a_model_with_one_thing_wrong_is_seen(self):
         for name, value in self.wrong:
@@ -442,7 +539,7 @@ class Fixed(Compared, unittest.TestCase):
     @classmethod
     def setUpClass(cls):
         cls.given = [*Figures.given, *calls.every_byte(), *calls.sines(), *calls.half_sines(), *calls.sheets(), *calls.places(), *calls.legs(),
-                     *calls.courses(), *calls.steps(), *calls.files(ROUTES), *calls.writings()]
+                     *calls.courses(), *calls.steps(), *calls.files(ROUTES), *calls.writings(), *calls.roots()]
         cls.said = doors.answers(cls.given)
 
 
@@ -485,6 +582,39 @@ class Rows(unittest.TestCase):
                                 ('angle_of_ratio', lambda n, d: ANGLE_OF_RATIO(n, d) - 1)):
                 with self.subTest(name, row=k), mock.patch.object(model, name, value):
                     self.assertNotEqual(differing(given, said, modelled(given)), [])
+
+
+class Worked(unittest.TestCase):
+    """The steps of roots, added up."""
+
+    @classmethod
+    def setUpClass(cls):
+        some = random.Random(SEED)
+        given = [*calls.roots(), *(calls.random_root(some) for _ in range(10 * COUNT))]
+        cls.said = [(number, line) for (_, number), line in zip(given, doors.answers(given))]
+
+    def test_every_working_adds_up(self):
+        self.assertEqual([(number, line) for number, line in self.said if any(broken(number, line))], [])
+
+    def test_a_working_with_one_number_changed_is_seen(self):
+        for number, line in self.said[::500]:
+            numbers = [int(word) for word in line.split()]
+            for at, off in itertools.product(range(len(numbers)), (-1, 1)):
+                wrong = [*numbers[:at], numbers[at] + off, *numbers[at + 1:]]
+                self.assertTrue(any(broken(number, doors.line_of(wrong))), (number, wrong))
+
+    def test_digits_that_a_division_does_not_find_come_up(self):
+        # by how much the quotient of the rest and 20 × root, or 9 for a greater one, is too great; and quotients of two digits
+        over, quotients = set(), set()
+        for _, line in self.said:
+            _, count, steps = working_of(line)
+            root, (_, digit, before) = 0, steps[0]
+            for pair, next_digit, rest in steps[1:count]:
+                root = 10 * root + digit
+                quotients.add((100 * before + pair) // (20 * root))
+                over.add(min((100 * before + pair) // (20 * root), 9) - next_digit)
+                digit, before = next_digit, rest
+        self.assertEqual((over, max(quotients)), ({0, 1, 2, 3}, 14))
 
 
 class Placed(unittest.TestCase):
@@ -581,7 +711,7 @@ class Random(Compared, unittest.TestCase):
     @classmethod
     def setUpClass(cls):
         some = random.Random(SEED)
-        cls.given = [*calls.random_calls(some, 70 * COUNT), *calls.random_readings(some, COUNT), *calls.random_measures(some, COUNT),
+        cls.given = [*calls.random_calls(some, 80 * COUNT), *calls.random_readings(some, COUNT), *calls.random_measures(some, COUNT),
                      *calls.random_writings(some, 2 * COUNT)]
         some.shuffle(cls.given)  # so that what is wrong with one door is seen before all the others are through
         cls.said = doors.answers(cls.given)

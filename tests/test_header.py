@@ -13,7 +13,7 @@ import model
 
 HEADER = built.ROOT / 'include/senruhobi.h'
 # the constants, and the crate that knows each
-CONSTANTS = {'NUMBERS': 'points', 'MOST_POINTS': 'points', 'MOST_NUMBERS': 'points', 'MOST_BYTES': 'route'}
+CONSTANTS = {'NUMBERS': 'points', 'MOST_POINTS': 'points', 'MOST_NUMBERS': 'points', 'MOST_BYTES': 'route', 'MOST_PAIRS': 'roots'}
 IN_RATTLE = re.compile(r'\bconst (\w+): \w+ = ([\w *]+);')
 IN_C = re.compile(r'\bSENRUHOBI_(\w+) = ([\w *]*\w)')
 REFUSED = re.compile(r'SENRUHOBI_REFUSED_(\w+) = (\d+),? /\* (.*) \*/')
@@ -63,7 +63,8 @@ class Header(unittest.TestCase):
 
     def test_a_header_that_says_otherwise_is_seen(self):
         for old, new, name in (('_NUMBERS = 3', '_NUMBERS = 4', 'NUMBERS'), ('_MOST_POINTS = 1000', '_MOST_POINTS = 1001', 'MOST_POINTS'),
-                               ('_BYTES = 60000', '_BYTES = 60001', 'MOST_BYTES'), ('_PLACE = 11', '_PLACE = 12', 'PLACE'),
+                               ('_BYTES = 60000', '_BYTES = 60001', 'MOST_BYTES'), ('_PAIRS = 10', '_PAIRS = 11', 'MOST_PAIRS'),
+                               ('_PLACE = 11', '_PLACE = 12', 'PLACE'),
                                ('_MOVE = 1', '_MOVE = 3', 'MOVE'), ('_REFUSED_BUFFER', '_REFUSED_OTHER', 'BUFFER'),
                                ('_REFUSED_BUFFER', '_REFUSED_OTHER', 'OTHER')):
             self.assertIn(old, self.header)

@@ -4,6 +4,7 @@ use mathlib.Core.Path.{_≡_, refl, ap, _∙_}
 use Prim.Native.Nat.{ℕ, _+_, _*_, _/_, _≤_, _<_}
 use native.Mathlib.Omega.{arith}
 use lib.IntN.{pos, negℤ}
+use Rattle.roots.specs.RootLaws.{root-is}
 use Rattle.sines.specs.Table.{sines, sinesFrom, rounded, sineOfStep, twiceCosine, entry}
 use Rattle.sines.specs.Sine.{step, sineBy, longSine, longSineHalf}
 use Rattle.sines.specs.SineLaws.{between, longSine-tick, longSine-quarter, halves, longSineHalf-zero, longSineHalf-quarter, longSineHalf-1}
@@ -18,7 +19,7 @@ use Rattle.globe.specs.AngleLaws.{cosine-pole}
 use Rattle.globe.specs.Sheet.{cylinder, sinusoid, cylindricalOf, sinusoidalOf, cylindricalBackOf, sinusoidalBackOf}
 use Rattle.globe.specs.SheetLaws.{place-is, there-and-back, cylinder-invertible, back-nobody, back-at, sine-is}
 use Rattle.globe.specs.Leg.{degree, degreeLength, legCosine, lengthOf, legLength, legOf}
-use Rattle.globe.specs.LegLaws.{root-is, same-point, north-exact}
+use Rattle.globe.specs.LegLaws.{same-point, north-exact}
 use Rattle.globe.specs.Paper.{sinePaper, placePaper, pointPaper, lengthPaper}
 
 -- ---- sines

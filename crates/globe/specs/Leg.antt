@@ -1,14 +1,13 @@
 -- The length of a leg: (5-3a) of the manual in whole numbers.
 -- Assumes nothing.
 use Prim.Native.Nat.{ℕ, _+_, _-_, _*_, _/_, min}
-use lib.Dec.{leb}
 use lib.IntN.{ℤ, natAbs, _-ℤ_}
 use Rattle.sines.specs.Sine.{quarter, longSine, legShortening, legUnit, legSine}
-use Rattle.sines.specs.Greatest.{greatest}
 use Rattle.sines.specs.Back.{greatestAngle}
 use Rattle.globe.specs.declared.Length.{Length}
 use Rattle.globe.specs.declared.Length.the-variants.{Millimetres, Refused}
 use Rattle.refusals.specs.Choice.{firstOf, answered}
+use Rattle.roots.specs.Root.{rootOf}
 use Rattle.ticks.specs.Ticks.{fullTurn, pointRefusal}
 
 -- p, "half the size of the latitude difference": "Length uses whole differences as half-tick counts."
@@ -30,10 +29,6 @@ cosines lat lat′ = legCosine lat * legCosine lat′ / legUnit
 -- "H = (short sine of p)² + floor(m × (short sine of q)² / 10^9)"
 abbrev pub chord : ℕ → ℕ → ℕ → ℕ
 chord m p q = legSine p * legSine p + m * (legSine q * legSine q) / legUnit
-
--- "the greatest whole number whose square is at most H"
-unfoldable pub rootOf : ℕ → ℕ
-rootOf h = greatest (λ r. leb (r * r) h) h
 
 -- "Its length is arc × 111,194,927 / 10,000,000 millimetres, floored.": a degree's length, over its ticks
 abbrev pub degree : ℕ

@@ -1,61 +1,27 @@
--- Laws of a leg: the root, the product that is exact before its division, what bounds each part, and theorems about a leg's length: it is the same both
+-- Laws of a leg: the product that is exact before its division, what bounds each part, and theorems about a leg's length: it is the same both
 -- ways, exact along a meridian up to 110 degrees, so 0 from a point to itself, not 0 where the latitudes differ, and at most half a turn's.
 -- Assumes nothing.
 use mathlib.Core.Path.{_≡_, sym, ap, _∙_}
 use mathlib.Core.Bool.{true}
 use Prim.Native.Nat.{ℕ, zero, suc, _+_, _-_, _*_, _/_, _%_, _≤_, _<_, min}
-use native.Mathlib.Nat.{lt-of-not-le, le-of-lt, le-trans, mul-comm, mul-add, mul-left-comm, mul-le-mul, mod-lt, div-add-mod, mul-add-div, div-le-of-le-mul, le-mul-of-pos-right}
-use native.Mathlib.Decide.{decLe}
+use native.Mathlib.Nat.{le-of-lt, mul-comm, mul-add, mul-left-comm, mul-le-mul, mod-lt, div-add-mod, mul-add-div, div-le-of-le-mul}
 use native.Mathlib.Omega.{arith}
-use lib.Dec.{leb}
 use lib.IntN.{ℤ, natAbs, _-ℤ_}
-use borrow.Author.Tests.{le-leb, lt-leb, leb-true, leb-false}
+use borrow.Author.Tests.{leb-false}
 use mir.Syntax.{w32, w64}
 use mir.Val.{SFits, toZ, ofZ}
 use mir.Facts.{toZ-ofZ}
 use Rattle.signed.specs.Sides.{above, below, one-side, sub-sides, size-sides}
 use Rattle.signed.specs.Machine.{at64, sub-fits}
+use Rattle.roots.specs.Root.{rootOf}
+use Rattle.roots.specs.RootLaws.{root-is, root-high}
 use Rattle.sines.specs.Sine.{quarter, quarterHalves, legUnit, legSine}
 use Rattle.sines.specs.SineLaws.{longSine-top, longSineHalf-zero, longSineHalf-1, legSine-top, legSine-some}
-use Rattle.sines.specs.Greatest.{IsGreatest}
-use Rattle.sines.specs.GreatestLaws.{greatest-is, greatest-meets}
 use Rattle.sines.specs.Back.{greatestAngle}
 use Rattle.sines.specs.BackLaws.{greatestAngle-meets, greatest-own}
 use Rattle.ticks.specs.Ticks.{fullTurn, isLatitude, isLongitude, turned, offsetOf}
 use Rattle.ticks.specs.TickLaws.{turned-how, latitude, longitude, is-longitude, offset-longitude}
-use Rattle.globe.specs.Leg.{halfNorth, halfEast, legCosine, cosines, chord, rootOf, degree, degreeLength, lengthOf, legLength}
-
--- ---- the root
-
-self-le : (r : ℕ) → r ≤ r * r
-self-le zero = omega arith
-self-le (suc n) = le-mul-of-pos-right (suc n) (omega arith)
-
-pub root-is : {h r : ℕ} → r * r ≤ h → h < (r + 1) * (r + 1) → r ≡ rootOf h
-unfolding rootOf
-root-is {h} {r} l u =
-    greatest-is (λ v. leb (v * v) h) (record {
-      inside = le-trans (self-le r) l;
-      holds = le-leb (r * r) h l;
-      later = λ v m _. lt-leb (v * v) h (past v m);
-    })
-  where
-    past : (v : ℕ) → r < v → h < v * v
-    past v m = let l : r + 1 ≤ v = omega arith in omega (arith, mul-le-mul l l)
-
-root-meets : (h : ℕ) → IsGreatest (λ r. leb (r * r) h) h (rootOf h)
-unfolding rootOf
-root-meets h = greatest-meets (λ r. leb (r * r) h) (le-leb 0 h (omega arith))
-
-pub root-low : (h : ℕ) → rootOf h * rootOf h ≤ h
-root-low h = leb-true (rootOf h * rootOf h) h (root-meets h .holds)
-
-pub root-high : (h : ℕ) → h < (rootOf h + 1) * (rootOf h + 1)
-root-high h = go (decLe (rootOf h + 1) h)
-  where
-    go : Dec (rootOf h + 1 ≤ h) → h < (rootOf h + 1) * (rootOf h + 1)
-    go (yes l) = leb-false _ h (root-meets h .later (rootOf h + 1) (omega arith) l)
-    go (no f) = omega (arith, lt-of-not-le f)
+use Rattle.globe.specs.Leg.{halfNorth, halfEast, legCosine, cosines, chord, degree, degreeLength, lengthOf, legLength}
 
 -- ---- m × s / d by the parts of s, where m × s itself does not fit
 

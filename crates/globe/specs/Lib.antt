@@ -5,7 +5,6 @@ pub mod Demand
 pub mod SheetLaws
 pub mod Leg
 pub mod LegLaws
-pub mod Newton
 pub mod Measure
 pub mod MeasureLaws
 pub mod Course

@@ -15,6 +15,8 @@ use Rattle.refusals.specs.Choice.{firstOf, answered}
 use Rattle.refusals.specs.Tests.{and-true, true-and, by-test, clash}
 use Rattle.signed.specs.Sides.{quot-neg}
 use Rattle.signed.specs.Sign.{signAs}
+use Rattle.roots.specs.Root.{rootOf}
+use Rattle.roots.specs.RootLaws.{root-low, root-high}
 use Rattle.sines.specs.Table.{entry}
 use Rattle.sines.specs.Rules.{growth, last}
 use Rattle.sines.specs.Sine.{quarter, sineBy, longSine, shortening, shortSine, quarterHalves, longSineHalf, legSine}
@@ -39,7 +41,7 @@ use Rattle.globe.specs.Angle.{signedLongSine, shortCosine, longAround, s
 use Rattle.globe.specs.AngleLaws as A
 use Rattle.globe.specs.Sheet.{Sheet, cylinder, sinusoid, placeOf, cylindricalOf, sinusoidalOf}
 use Rattle.globe.specs.SheetLaws.{place-is, times-one}
-use Rattle.globe.specs.Leg.{halfNorth, halfEast, legCosine, cosines, chord, rootOf, legLength, legOf}
+use Rattle.globe.specs.Leg.{halfNorth, halfEast, legCosine, cosines, chord, legLength, legOf}
 use Rattle.globe.specs.LegLaws as G
 use Rattle.globe.specs.Measure.{legInto, lengthUpTo, measureOf}
 use Rattle.globe.specs.MeasureLaws.{length-longest, accepted-measured, count-next, part-next, length-next, leg-next}
@@ -413,8 +415,8 @@ leg-by-rule lat lon lat′ lon′ x y =
       m-high = omega arith;
       h-low = omega arith;
       h-high = omega arith;
-      r-low = G.root-low h;
-      r-high = G.root-high h;
+      r-low = root-low h;
+      r-high = root-high h;
       u-inside = g .inside;
       u-low = omega (arith, halfAt-is u (g .inside), leb-true (legSine u) r (g .holds));
       u-high = λ v n k. omega (arith, halfAt-is v k, leb-false (legSine v) r (g .later v n k));

@@ -12,7 +12,6 @@ mod buffer;
 mod courses;
 mod legs;
 mod lookup;
-mod root;
 mod search;
 mod sheet;
 mod slope;

@@ -34,6 +34,9 @@ senruhobi-leg = answers (λ κs a v w. refl)
 pub senruhobi-course : One senruhobi.senruhobi_course.ended senruhobi.senruhobi_course.Reads.Asked senruhobi.senruhobi_course.Reads.Learnt
 senruhobi-course = answers (λ κs a v w. refl)
 
+pub senruhobi-root-steps : One senruhobi.senruhobi_root_steps.ended senruhobi.senruhobi_root_steps.Reads.Asked senruhobi.senruhobi_root_steps.Reads.Learnt
+senruhobi-root-steps = answers (λ κs a v w. refl)
+
 pub senruhobi-measure : One senruhobi.senruhobi_measure.ended senruhobi.senruhobi_measure.Reads.Asked senruhobi.senruhobi_measure.Reads.Learnt
 senruhobi-measure = answers (λ κs a v w. refl)
 

@@ -1,7 +1,9 @@
 // The doors for C and for what can call C: numbers and slices in, a struct by value out. In `refusal` 0 means accepted; beside a refusal every
-// field is 0, but for the line of a text and the pen of a step, which is the one that came in. include/senruhobi.h declares the same for C.
+// field is 0, but for the line of a text and the pen of a step, which is the one that came in. The steps of a root are never refused.
+// include/senruhobi.h declares the same for C.
 ghost use mathlib.Core.Path.{_≡_};
 ghost use lib.ListN.{length};
+ghost use Rattle.roots.specs.School.{schoolOf};
 ghost use Rattle.globe.specs.Paper.{sinePaper, placePaper, pointPaper, lengthPaper, directionPaper};
 ghost use Rattle.globe.specs.Angle.{longSineOf, shortSineOf, longSineHalfOf};
 ghost use Rattle.globe.specs.Sheet.{cylindricalOf, sinusoidalOf, cylindricalBackOf, sinusoidalBackOf};
@@ -25,6 +27,7 @@ use numerals::WritingOut;
 use pen::Pen;
 use pen::StepOut;
 use pen::Window;
+use roots::Working;
 use route::ReadingOut;
 use route::Target;
 
@@ -99,6 +102,13 @@ pub extern "C" fn senruhobi_course(
     ensures { λ r. ⌜ r ≡ directionPaper (courseOf latitude1 longitude1 latitude2 longitude2) ⌝ }
 {
     out::direction(globe::course(latitude1, longitude1, latitude2, longitude2))
+}
+
+#[no_mangle]
+pub extern "C" fn senruhobi_root_steps(number: u64) -> Working
+    ensures { λ r. ⌜ r ≡ schoolOf number ⌝ }
+{
+    roots::steps(number)
 }
 
 // A slice is a pointer and a count for C.
