@@ -55,6 +55,11 @@ static char usual_output[SENRUHOBI_MOST_BYTES];
 static int32_t near_points[NUMBERS], far_points[NUMBERS];
 static double near_degrees[NUMBERS], far_degrees[NUMBERS];
 
+/* A target is the length of so many of the near points, from the first, by the twin and by the usual way: the last of them meets it. */
+typedef struct { uint64_t exact; double usual; } target;
+
+static target target_10, target_500, target_1000;
+
 /* Numbers of the sizes that H has in near legs and in far ones, by turns. */
 static uint64_t h[CALLS];
 
@@ -162,6 +167,19 @@ static void make_routes(void)
     make_text(&no_points, near, 0, "");
     make_points(near, near_points, near_degrees);
     make_points(far, far_points, far_degrees);
+}
+
+static target make_target(size_t points)
+{
+    size_t numbers = SENRUHOBI_NUMBERS * points;
+    return (target){twin_measure(near_points, numbers).millimetres, usual_measure(near_degrees, numbers).value};
+}
+
+static void make_targets(void)
+{
+    target_10 = make_target(10);
+    target_500 = make_target(500);
+    target_1000 = make_target(1000);
 }
 
 static void make_h(void)
@@ -290,6 +308,29 @@ MEASURE_EXACT(twin, none, 0, 0)
 MEASURE(near)
 MEASURE(far)
 
+#define MEET_EXACT(way, name, buffer, numbers, target)               \
+    static uint64_t way##_target_met_##name(void)                    \
+    {                                                                \
+        senruhobi_met a = way##_target_met(buffer, numbers, target); \
+        return a.refusal + a.met + 3 * (uint64_t)a.points;           \
+    }
+
+/* All get the 1,000 near points. */
+#define MEET(looked_at)                                                                  \
+    MEET_EXACT(senruhobi, looked_at, near_points, NUMBERS, target_##looked_at.exact)     \
+    MEET_EXACT(twin, looked_at, near_points, NUMBERS, target_##looked_at.exact)          \
+    static uint64_t usual_target_met_##looked_at(void)                                   \
+    {                                                                                    \
+        usual_met a = usual_target_met(near_degrees, NUMBERS, target_##looked_at.usual); \
+        return (uint64_t)(a.refused + a.met + 3 * a.points);                             \
+    }
+
+MEET_EXACT(senruhobi, none, 0, 0, TARGET)
+MEET_EXACT(twin, none, 0, 0, TARGET)
+MEET(10)
+MEET(500)
+MEET(1000)
+
 /* With a target, and a comma for a mark. */
 #define WRITE_EXACT(way, name, points, numbers)                                                                       \
     static uint64_t way##_write_##name(void)                                                                          \
@@ -352,11 +393,11 @@ typedef struct {
         .lent = {[DOOR] = senruhobi_buffer, [TWIN] = twin_buffer}, .lent_bytes = sizeof twin_buffer                    \
     }
 
-#define MEASURING(name_)                                                                                           \
-    {                                                                                                              \
-        .name = "measure, " #name_, .calls = 1,                                                                    \
-        .round = {[DOOR] = senruhobi_measure_##name_, [TWIN] = twin_measure_##name_, [USUALLY] = usual_measure_##name_, \
-                  [IDLE_DOOR] = senruhobi_measure_none, [IDLE_TWIN] = twin_measure_none}                           \
+#define MEASURING(door, title, name_)                                                                                    \
+    {                                                                                                                    \
+        .name = #door ", " title, .calls = 1,                                                                            \
+        .round = {[DOOR] = senruhobi_##door##_##name_, [TWIN] = twin_##door##_##name_, [USUALLY] = usual_##door##_##name_, \
+                  [IDLE_DOOR] = senruhobi_##door##_none, [IDLE_TWIN] = twin_##door##_none}                               \
     }
 
 /* Writing makes no table, so no call is idle. */
@@ -369,7 +410,8 @@ typedef struct {
 
 enum {
     LONG_SINE, LONG_SINE_HALF, SHORT_SINE, CYLINDRICAL, SINUSOIDAL, CYLINDRICAL_BACK, SINUSOIDAL_BACK, LEG, COURSE, ROOT_STEPS, PEN_STEP,
-    MEASURE_NEAR, MEASURE_FAR, READ_FEW, NEAR_JOINED, NEAR_PARTED, FAR_JOINED, FAR_PARTED, WRITE_FEW, WRITE_NEAR, WRITE_FAR, JOBS
+    MEASURE_NEAR, MEASURE_FAR, MET_10, MET_500, MET_1000, READ_FEW, NEAR_JOINED, NEAR_PARTED, FAR_JOINED, FAR_PARTED, WRITE_FEW, WRITE_NEAR,
+    WRITE_FAR, JOBS
 };
 
 static job jobs[JOBS] = {
@@ -384,8 +426,11 @@ static job jobs[JOBS] = {
     [COURSE] = EACH(course),
     [ROOT_STEPS] = TABLELESS(root_steps),
     [PEN_STEP] = EACH(pen_step),
-    [MEASURE_NEAR] = MEASURING(near),
-    [MEASURE_FAR] = MEASURING(far),
+    [MEASURE_NEAR] = MEASURING(measure, "near", near),
+    [MEASURE_FAR] = MEASURING(measure, "far", far),
+    [MET_10] = MEASURING(target_met, "10 points", 10),
+    [MET_500] = MEASURING(target_met, "500 points", 500),
+    [MET_1000] = MEASURING(target_met, "1000 points", 1000),
     [READ_FEW] = READING("few points", few_points),
     [NEAR_JOINED] = READING("near, joined", near_joined),
     [NEAR_PARTED] = READING("near, parted", near_parted),
@@ -495,11 +540,12 @@ static void print_rows(void)
            "table   what a call pays to make the table of sines, if it makes one: an idle call (refused, or without points) less the twin's\n"
            "rest    door less table; no ratio below a twentieth of the table, where it is mostly noise\n"
            "few     %d points of a walk; near: %d of them; far: %d points from all round the globe\n"
+           "met     once so many of the near points are looked at, out of %d\n"
            "joined  a leg into each point but the first; parted: `g` between all points, and no leg\n"
            "roots   of numbers as great as H is in near legs and in far ones, by turns\n"
            "a leg   (joined - parted) / %d, plus the cost of the `g` line that stands in its place in the parted text\n"
            "a point a call of write_route / %d, with the lines before the first point\n",
-           FEW_POINTS, POINTS, POINTS, POINTS - 1, POINTS);
+           FEW_POINTS, POINTS, POINTS, POINTS, POINTS - 1, POINTS);
 }
 
 /* The sums of one round each, so that every answer is used. Answers whether a door and its twin differ. */
@@ -526,6 +572,7 @@ int main(int arguments, char **words)
     printf("seed %d; the best of %d\n\n", SEED, repetitions);
     make_inputs();
     make_routes();
+    make_targets();
     make_h();
     for (int i = 0; i < JOBS; i++)
         prepare(&jobs[i], arguments > 1 ? 0 : SECTION);

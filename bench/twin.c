@@ -353,12 +353,17 @@ senruhobi_direction twin_course(int32_t latitude1, int32_t longitude1, int32_t l
 
 /* Point buffer */
 
+/* Where the pen was up, as it is before the first point, no leg is counted. */
+static inline uint64_t leg_into(const int32_t *at)
+{
+    return at[2] ? 0 : leg_length(at[-NUMBERS], at[1 - NUMBERS], at[0], at[1]);
+}
+
 static uint64_t measure(const int32_t *points, size_t n)
 {
     uint64_t length = 0;
     for (const int32_t *at = points + NUMBERS; at < points + NUMBERS * n; at += NUMBERS)
-        if (!at[2])
-            length += leg_length(at[-NUMBERS], at[1 - NUMBERS], at[0], at[1]);
+        length += leg_into(at);
     return length;
 }
 
@@ -385,6 +390,20 @@ senruhobi_length twin_measure(const int32_t *points, size_t numbers)
     if (refusal)
         return (senruhobi_length){.refusal = refusal};
     return (senruhobi_length){.millimetres = numbers ? measure(points, numbers / NUMBERS) : 0};
+}
+
+senruhobi_met twin_target_met(const int32_t *points, size_t numbers, uint64_t target)
+{
+    uint32_t refusal = buffer_refusal(points, numbers);
+    if (!refusal && target > MOST_TARGET)
+        refusal = TARGET;
+    if (refusal)
+        return (senruhobi_met){.refusal = refusal};
+    uint64_t length = 0;
+    size_t i = 0;
+    for (; i < numbers && length < target; i += NUMBERS)
+        length += leg_into(points + i);
+    return (senruhobi_met){.met = length >= target, .points = (uint32_t)(i / NUMBERS)};
 }
 
 /* Route text */

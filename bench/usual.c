@@ -36,6 +36,11 @@ static int is_point(double latitude, double longitude)
     return is_latitude(latitude) && is_longitude(longitude);
 }
 
+static int is_target(double millimetres)
+{
+    return 0 <= millimetres && millimetres < 1e9;
+}
+
 static double into_turn(double degrees)
 {
     return degrees < -180 ? degrees + 360 : degrees >= 180 ? degrees - 360 : degrees;
@@ -136,6 +141,12 @@ senruhobi_working usual_root_steps(uint64_t number)
     return w;
 }
 
+/* Into the first point there is no leg, and where the pen was up none is counted. */
+static double leg_into(const double *points, const double *at)
+{
+    return at > points && at[2] == 0 ? leg_length(at[-SENRUHOBI_NUMBERS], at[1 - SENRUHOBI_NUMBERS], at[0], at[1]) : 0;
+}
+
 usual_number usual_measure(const double *points, size_t numbers)
 {
     usual_number r = {0};
@@ -144,9 +155,25 @@ usual_number usual_measure(const double *points, size_t numbers)
     for (const double *at = points; at < points + numbers; at += SENRUHOBI_NUMBERS) {
         if (!is_point(at[0], at[1]))
             return (usual_number){.refused = 1};
-        if (at > points && at[2] == 0)
-            r.value += leg_length(at[-SENRUHOBI_NUMBERS], at[1 - SENRUHOBI_NUMBERS], at[0], at[1]);
+        r.value += leg_into(points, at);
     }
+    return r;
+}
+
+/* Nothing is looked at behind the point that meets the target. */
+usual_met usual_target_met(const double *points, size_t numbers, double target)
+{
+    usual_met r = {0};
+    double length = 0;
+    if (numbers % SENRUHOBI_NUMBERS || !is_target(target))
+        return (usual_met){.refused = 1};
+    for (const double *at = points; at < points + numbers && length < target; at += SENRUHOBI_NUMBERS) {
+        if (!is_point(at[0], at[1]))
+            return (usual_met){.refused = 1};
+        length += leg_into(points, at);
+        r.points++;
+    }
+    r.met = length >= target;
     return r;
 }
 
@@ -205,7 +232,7 @@ usual_written usual_write_route(const double *points, size_t numbers, int has_ta
 {
     const usual_written refused = {.refused = 1};
     char first[32], second[32];
-    if (numbers % SENRUHOBI_NUMBERS || (has_target && !(0 <= target && target < 1e9)))
+    if (numbers % SENRUHOBI_NUMBERS || (has_target && !is_target(target)))
         return refused;
     size_t at = (size_t)snprintf(out, bytes, "route\t%s\n", comma ? "comma" : "point");
     if (has_target && at < bytes) {

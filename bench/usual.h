@@ -6,6 +6,7 @@
 typedef struct { int refused; double value; } usual_number;
 typedef struct { int refused; double x, y; } usual_place;
 typedef struct { int refused; double latitude, longitude; } usual_point;
+typedef struct { int refused, met, points; } usual_met;
 typedef struct { int refused, points, has_target; double length, target; } usual_reading;
 typedef struct { int refused; size_t bytes; } usual_written;
 typedef struct { int refused, stroke; double x, y; int pen; } usual_step;
@@ -20,6 +21,7 @@ usual_number usual_leg(double latitude1, double longitude1, double latitude2, do
 usual_number usual_course(double latitude1, double longitude1, double latitude2, double longitude2);
 senruhobi_working usual_root_steps(uint64_t number);
 usual_number usual_measure(const double *points, size_t numbers);
+usual_met usual_target_met(const double *points, size_t numbers, double target);
 usual_reading usual_read_route(const char *text, double *buffer, size_t numbers);
 usual_written usual_write_route(const double *points, size_t numbers, int has_target, double target, int comma, char *out, size_t bytes);
 usual_step usual_pen_step(int pen, double left, double right, double bottom, double top,

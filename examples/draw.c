@@ -1,4 +1,4 @@
-/* Reads a route, prints its length, and says what a pen draws of it on a page of 1,000 metres a pixel. */
+/* Reads a route, prints its length, and says whether it meets its target and what a pen draws of it on a page of 1,000 metres a pixel. */
 #include <stdio.h>
 #include <senruhobi.h>
 
@@ -19,8 +19,10 @@ int main(void)
         return 1;
     }
     printf("%u points, %llu mm\n", route.points, (unsigned long long)route.length);
-    if (route.has_target)
-        printf("target %llu mm\n", (unsigned long long)route.target);
+    if (route.has_target) {
+        senruhobi_met plan = senruhobi_target_met(numbers, SENRUHOBI_NUMBERS * route.points, route.target);
+        printf("target %llu mm, %s: %u points looked at\n", (unsigned long long)route.target, plan.met ? "met" : "not met", plan.points);
+    }
 
     /* a window from the middle of the sheet to the north-east, in millimetres */
     const double left = 0, right = 1e9, bottom = 0, top = 1e10;

@@ -1,4 +1,5 @@
-/* Senruhobi's doors for C: sines, map sheets, lengths, courses, roots, route texts and the pen of the route desk. The library is for x86-64 Linux.
+/* Senruhobi's doors for C: sines, map sheets, lengths, targets, courses, roots, route texts and the pen of the route desk. The library is for
+ * x86-64 Linux.
  *
  * Each door answers for all arguments; nobody has to check first. In `refusal` 0 means accepted, and any other number says why not: see
  * `senruhobi_refusal`. Beside a refusal every other field is 0, but for a text's line and the pen, and no buffer is written to. Where nothing
@@ -59,7 +60,7 @@ typedef enum {
     SENRUHOBI_REFUSED_DIVISOR = 13, /* divisor outside 1 to 1,000,000 */
     SENRUHOBI_REFUSED_MERIDIAN = 14, /* central meridian out of range */
     SENRUHOBI_REFUSED_OUTPUT = 15, /* the output from the place on is too short for the text; a place past its end leaves no room */
-    SENRUHOBI_REFUSED_TARGET = 16, /* a target that is not a whole number of metres, or above 999,999,000 mm */
+    SENRUHOBI_REFUSED_TARGET = 16, /* a target above 999,999,000 mm; in writing also one that is not a whole number of metres */
     SENRUHOBI_REFUSED_BUFFER = 17, /* a point buffer that is no multiple of three, a third number other than 0 or 1, or a first one of 0 */
     SENRUHOBI_REFUSED_COURSE = 18 /* no course: the rule's two numbers are both zero, as between equal points, opposite ones, and some that are nearly so */
 } senruhobi_refusal;
@@ -79,6 +80,7 @@ typedef struct { uint32_t refusal; int64_t value; } senruhobi_sine;
 typedef struct { uint32_t refusal; int64_t x, y; } senruhobi_place;
 typedef struct { uint32_t refusal; int32_t latitude, longitude; } senruhobi_point;
 typedef struct { uint32_t refusal; uint64_t millimetres; } senruhobi_length;
+typedef struct { uint32_t refusal, met /* 1 yes, 0 no */, points; } senruhobi_met;
 typedef struct { uint32_t refusal; uint32_t ticks; } senruhobi_direction;
 typedef struct { uint64_t pair, digit, rest; } senruhobi_root_step;
 typedef struct { uint64_t root, count; senruhobi_root_step steps[SENRUHOBI_MOST_PAIRS]; } senruhobi_working;
@@ -117,6 +119,12 @@ senruhobi_working senruhobi_root_steps(uint64_t number);
 /* The length of a point buffer, the sum of its legs; the leg into a point whose third number is 1 is not counted. `numbers` is the whole
  * buffer's, SENRUHOBI_NUMBERS a point. Refusals: 17, 9, then 6 and 7 point by point. */
 senruhobi_length senruhobi_measure(const int32_t *points, size_t numbers);
+
+/* Whether a point buffer is at least as long as a target in millimetres, which need not be whole metres. The legs are added up only until the sum
+ * reaches the target, and `points` says how many points were looked at: those of the shortest beginning that is long enough, none for a target
+ * of 0, and all where the target is not met. `numbers` is the whole buffer's. Refusals, all found before a leg is measured: 17, 9, then 6 and 7
+ * point by point, then 16, only for a target above 999,999,000. */
+senruhobi_met senruhobi_target_met(const int32_t *points, size_t numbers, uint64_t target);
 
 /* Reads a route's text. Of an accepted one the buffer begins with the numbers of its points, the third 1 for the first point and after
  * `g`, else 0; its other numbers stay as they were. Refusals: 1 to 10, with the line. */

@@ -6,8 +6,8 @@ import math
 import model
 import texts
 from figures import (DOWN, GREATEST, GREATEST_64, HERE, INF, KILOMETRES, LATITUDE, LEAST, LEAST_64, LONGITUDE, NO_LATITUDES, NO_LONGITUDES,
-                     NO_TARGETS, NO_THIRDS, PENS, THIRD, X, Y, YES, above, below, changed, route, step)
-from model import HALF_TURN, NUMBERS, QUARTER, QUARTER_IN_HALVES, STEP, STEP_IN_HALVES, turned
+                     NO_TARGETS, NO_THIRDS, PENS, THIRD, X, Y, YES, above, below, changed, laid, north, route, step)
+from model import DEGREE, HALF_TURN, NUMBERS, QUARTER, QUARTER_IN_HALVES, STEP, STEP_IN_HALVES, turned
 
 LATITUDES = [LEAST, -QUARTER - 1, -QUARTER, -QUARTER + 1, -600_000_000, -1, 0, 1, STEP, QUARTER - 1, QUARTER, QUARTER + 1, GREATEST]
 LONGITUDES = [LEAST, -HALF_TURN - 1, -HALF_TURN, -HALF_TURN + 1, -1, 0, 1, HALF_TURN - 1, HALF_TURN, HALF_TURN + 1, GREATEST]
@@ -109,6 +109,25 @@ def roots():
     about = {root**2 + off for root in SOME_ROOTS if root <= MOST_ROOT for off in (*range(-101, 3), 2 * root - 1, 2 * root, 2 * root + 1)}
     numbers = {*range(10_000), *ends, *about, *range(2**64 - 100, 2**64)}
     yield from (('root_steps', number) for number in sorted(numbers) if 0 <= number < 2**64)
+
+
+def trail(count, reach, lifted=()):
+    """A point buffer to and fro about a place on the equator, up to five times so many ticks from it. Every fifth point is the one before it again."""
+    turns = (k - 1 if k % 5 == 4 else k for k in range(count))
+    return laid([(reach * (k * k % 7 - 3), reach * (5 * k % 11 - 5)) for k in turns], lifted)
+
+
+def targets():
+    """Targets at, below and above the lengths of a buffer's beginnings, and at the limits: 6 points, with the pen up before any of them; 40 points, from
+    ticks apart to all over the globe; a leg that takes 32 bits, and one that takes 33; and some of the beginnings of 1,000 points."""
+    lifts = itertools.chain(*(itertools.combinations(range(1, 6), count) for count in range(6)))
+    buffers = [*(trail(6, 1_000, lifted) for lifted in lifts), north(30 * DEGREE), north(40 * DEGREE), trail(1_000, 23_000, range(3, 1_000, 17)),
+               *(trail(40, reach, lifted) for reach in (1, 1_000, 500_000, 1_000_000, 300_000_000) for lifted in ((), range(3, 40, 4)))]
+    for numbers in buffers:
+        lengths = sorted({*model.lengths_of(model.points_of(numbers))})
+        beside = {length + off for length in (*lengths[::1 if len(lengths) < 100 else 100], lengths[-1]) for off in (-1, 0, 1)}
+        for target in sorted({*beside, model.MOST_TARGET - 1, model.MOST_TARGET, model.MOST_TARGET + 1, 2**64 - 1} - {-1}):
+            yield 'target_met', numbers, target
 
 
 def steps():
@@ -312,13 +331,14 @@ def random_calls(some, count):
 
 
 def good_buffer(some, count):
-    """The numbers of so many points: each near the one before it or anywhere, the pen up before the first and before some others."""
+    """The numbers of so many points: each near the one before it or anywhere, on the whole globe or in a part of it; the pen is up before the first
+    and before some others."""
     latitude, longitude = accepted_point(some)
-    numbers = []
+    numbers, part = [], some.choice([1, 1, 10**2, 10**some.randrange(8)])
     for k in range(count):
         near = latitude + small(some), longitude + small(some)
         latitude, longitude = accepted_point(some) if model.bad_point(*near) or some.random() < 0.5 else near
-        numbers += latitude, longitude, int(k == 0 or some.random() < 0.3)
+        numbers += latitude // part, longitude // part, int(k == 0 or some.random() < 0.3)
     return tuple(numbers)
 
 
@@ -368,6 +388,15 @@ def random_target(some):
     """A whole number of metres that is allowed, often the greatest, or one that is not."""
     return some.choice([model.METRE * some.randrange(10**some.randrange(7)), some.choice([*KILOMETRES]), model.MOST_TARGET,
                         model.MOST_TARGET + model.METRE, some.choice(NO_TARGETS), some.randrange(2**64)])
+
+
+def random_targets(some, count):
+    """Three targets for each of so many point buffers, most of them accepted: at the length of a beginning, right beside it, and any."""
+    for numbers in random_buffers(some, count):
+        numbers = numbers if some.random() < 1 / 3 else good_buffer(some, some.choice([1, 2, 3, 5, 8, 13]))
+        length = 0 if model.bad_buffer(numbers) else some.choice(model.lengths_of(model.points_of(numbers)))
+        for target in (length, abs(length + some.choice([-1, 1])), random_target(some)):
+            yield 'target_met', numbers, target
 
 
 def random_writings(some, count):

@@ -3,11 +3,12 @@
 
    "read_route ROOM :TEXT" lends a buffer of ROOM numbers; TEXT is in hex digits. Behind the fields of the answer stand 1, or 0 where
    anything but the buffer was changed, and then all the numbers of the buffer. "measure COUNT NUMBER .." lends COUNT numbers; behind the
-   fields stands 1, or 0 where a number was changed, of these or around them. "write_route COUNT NUMBER .. HAS_TARGET TARGET COMMA ROOM FROM"
-   lends COUNT numbers and an output of ROOM bytes, to be written to from FROM on. Behind the fields stand 1, or 0 where anything but the
-   output was changed, and then :OUTPUT in hex digits. A text or an output of no bytes and a buffer of no numbers are NULL.
+   fields stands 1, or 0 where a number was changed, of these or around them. "target_met COUNT NUMBER .. TARGET" does the same.
+   "write_route COUNT NUMBER .. HAS_TARGET TARGET COMMA ROOM FROM" lends COUNT numbers and an output of ROOM bytes, to be written to from
+   FROM on. Behind the fields stand 1, or 0 where anything but the output was changed, and then :OUTPUT in hex digits. A text or an output of
+   no bytes and a buffer of no numbers are NULL.
 
-   Before these three may stand "at PLACE": where in their memory text, buffer and output lie, counted in bytes and in numbers. At 0 the first
+   Before these four may stand "at PLACE": where in their memory text, buffer and output lie, counted in bytes and in numbers. At 0 the first
    byte or number is the first of the memory, at 1 the second; at -1 the last one is the last of the memory, at -2 the last but one. What lies
    before and behind the memory may not be read. A text, a buffer or an output of none is then not NULL: it points to its place.
 
@@ -150,6 +151,7 @@ static void say_sine(senruhobi_sine r) { printf("%u %ld", r.refusal, r.value); }
 static void say_place(senruhobi_place r) { printf("%u %ld %ld", r.refusal, r.x, r.y); }
 static void say_point(senruhobi_point r) { printf("%u %d %d", r.refusal, r.latitude, r.longitude); }
 static void say_length(senruhobi_length r) { printf("%u %lu", r.refusal, r.millimetres); }
+static void say_met(senruhobi_met r) { printf("%u %u %u", r.refusal, r.met, r.points); }
 static void say_direction(senruhobi_direction r) { printf("%u %u", r.refusal, r.ticks); }
 static void say_written(senruhobi_written r) { printf("%u %lu", r.refusal, r.bytes); }
 static void say_reading(senruhobi_reading r) { printf("%u %u %u %u %lu %lu", r.refusal, r.line, r.points, r.has_target, r.length, r.target); }
@@ -196,6 +198,16 @@ static void measure(size_t room, size_t count, long place)
 {
     lend(room, place);
     say_length(senruhobi_measure(pointer(lent, room, place), count ? count : room));
+    printf(" %d", unchanged(room));
+}
+
+static void target_met(size_t room, size_t count, long place)
+{
+    uint64_t target;
+    lend(room, place);
+    if (scanf("%lu", &target) != 1)
+        exit(1);
+    say_met(senruhobi_target_met(pointer(lent, room, place), count ? count : room, target));
     printf(" %d", unchanged(room));
 }
 
@@ -272,6 +284,8 @@ int main(void)
             say_step(senruhobi_pen_step(pen, left.value, right.value, bottom.value, top.value, divisor, a, b, c, d));
         else if (is("measure") && scanf("%lu", &room) == 1)
             measure(room, count, place);
+        else if (is("target_met") && scanf("%lu", &room) == 1)
+            target_met(room, count, place);
         else if (is("write_route") && scanf("%lu", &room) == 1)
             write_route(room, count, place);
         else if (is("read_route") && scanf("%lu%ms", &room, &text) == 2) {

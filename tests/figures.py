@@ -525,5 +525,76 @@ OTHER_WAYS = [
     (route('point', 't 000.000', 'p 090.0 -180.0', 'g', 'p 000 179.9999990'), route('point', 't 0', 'p 90 -180', 'g', 'p 0 179.999999')),
     (route('point', 't 999.90'), route('point', 't 999.9')), (route('comma', 'p 007 100'), route('comma', 'p 7 100')),
 ]
+
+
+def laid(places, lifted=()):
+    """A point buffer; the pen was up before the first point, and before those that are named, counted from 0."""
+    return tuple(number for k, place in enumerate(places) for number in (*place, int(k == 0 or k in lifted)))
+
+
+def north(*ticks, lifted=()):
+    """A point buffer that leads north from the equator, at each leg by so many ticks."""
+    return laid([(latitude, 0) for latitude in itertools.accumulate((0, *ticks))], lifted)
+
+
+POLES = [(900_000_000, 0), (-900_000_000, 0)]
+DATE_LINE = [(0, 1_799_000_000), (0, -1_799_000_000)]  # 22,238,985 mm apart; 44 times that are 978,515,340, and 45 times 1,000,754,325
+# Is the target met? Point buffers, and for some targets yes (1) or no (0), and how many points were looked at. "One tick north is then 11 mm, two
+# are 22, and equal points 0."
+PLANS = {
+    # of the two legs the second is counted
+    (0, 0, 1, 1, 0, 1, 2, 0, 0): {0: (1, 0), 1: (1, 3), 10: (1, 3), 11: (1, 3), 12: (0, 3), 999: (0, 3), 1_500: (0, 3), 999_999_000: (0, 3)},
+    # "none, for target 0"; "n if none does"
+    (): {0: (1, 0), 1: (0, 0), 999_999_000: (0, 0)}, (0, 0, 1): {0: (1, 0), 1: (0, 1), 999_999_000: (0, 1)},
+    # "the shortest beginning .. whose length reaches it"
+    north(1, 2): {0: (1, 0), 1: (1, 2), 11: (1, 2), 12: (1, 3), 33: (1, 3), 34: (0, 3)},
+    north(2, 1): {0: (1, 0), 1: (1, 2), 22: (1, 2), 23: (1, 3), 33: (1, 3), 34: (0, 3)},
+    # points that add nothing
+    north(0, 0): {0: (1, 0), 1: (0, 3)},
+    north(0, 0, 1, 0, 0, 2, 0, 0): {0: (1, 0), 1: (1, 4), 11: (1, 4), 12: (1, 7), 33: (1, 7), 34: (0, 9)},
+    # the 45th leg reaches 999,999,000, and the 44th does not
+    laid(23 * DATE_LINE): {22_238_985: (1, 2), 22_238_986: (1, 3), 978_515_340: (1, 45), 978_515_341: (1, 46), 999_999_000: (1, 46)},
+    laid(23 * DATE_LINE)[:-NUMBERS]: {978_515_340: (1, 45), 978_515_341: (0, 45), 999_999_000: (0, 45)},
+    # 1,000 points: the first leg reaches the target, the last one does, or none
+    north(*999 * [1]): {11: (1, 2), 12: (1, 3), 10_978: (1, 999), 10_979: (1, 1000), 10_989: (1, 1000), 10_990: (0, 1000), 999_999_000: (0, 1000)},
+    north(1, *998 * [0]): {1: (1, 2), 11: (1, 2), 12: (0, 1000)}, north(*998 * [0], 1): {1: (1, 1000), 11: (1, 1000), 12: (0, 1000)},
+    laid(500 * POLES): {1: (1, 2), 999_999_000: (1, 2)}, laid(500 * POLES, lifted=range(2, 1000)): {1: (1, 2), 999_999_000: (1, 2)},
+    laid(500 * POLES, lifted=range(999)): {1: (1, 1000), 999_999_000: (1, 1000)},
+    laid(500 * POLES, lifted=range(1000)): {0: (1, 0), 1: (0, 1000), 999_999_000: (0, 1000)},
+}
+
+
+def plans():
+    """Point buffers and targets, with the refusal, yes or no, and how many points were looked at."""
+    for numbers, answers in PLANS.items():
+        yield from ((numbers, target, (0, *answer)) for target, answer in answers.items())
+    # one leg, and targets about its length; part metres are no fault
+    for leg, length in LEGS.items():
+        for target in sorted({1, 999, 1_500, length - 1, length, length + 1, 999_999_000}):
+            if 0 < target <= 999_999_000:
+                yield laid([leg[:2], leg[2:]]), target, (0, int(length >= target), 2)
+    # the pen up before any of five points: each counted leg is 11 mm, and one of these reaches the target
+    for lifted in itertools.chain(*(itertools.combinations(range(1, 5), count) for count in range(5))):
+        numbers, counted = north(1, 1, 1, 1, lifted=lifted), [k for k in range(1, 5) if k not in lifted]
+        for before, k in enumerate(counted):
+            yield from ((numbers, 11 * before + more, (0, 1, k + 1)) for more in (1, 11))
+        yield numbers, 11 * len(counted) + 1, (0, 0, 5)
+    # "16 only for a target above 999,999,000"
+    for target in NO_TARGETS:
+        yield north(1), target, (16, 0, 0) if target > 999_999_000 else (0, int(target <= 11), 2)
+    # "R-1's for the buffer, all found before any leg is measured, then 16"
+    for numbers, number, length in buffers():
+        for target in (0, 1, 999_999_000, 999_999_001, 2**64 - 1):
+            refusal = number or (16 if target > 999_999_000 else 0)
+            if refusal:
+                yield numbers, target, (refusal, 0, 0)
+            elif target > length:
+                yield numbers, target, (0, 0, len(numbers) // NUMBERS)
+            elif target == 0:
+                yield numbers, target, (0, 1, 0)
+
+
+# behind the fields stands 1, as nothing changes
+MET = [(('target_met', numbers, target), (*answer, 1)) for numbers, target, answer in plans()]
 FIGURES = [*SINES.items(), *HALF_SINES.items(), *SHEETS.items(), *BACK.items(), *BOTH_WAYS.items(), *DIRECTIONS.items(), *WORKINGS.items(), *STEPS,
-           *orders(), *WRITINGS, *MEASURES, *readings()]
+           *orders(), *WRITINGS, *MEASURES, *MET, *readings()]

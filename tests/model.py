@@ -1,11 +1,13 @@
-"""The document's rules once more, in plain Python: sines, the two sheets, the length and the course of a leg, the steps of a root, the route
-text, which is read and written, and its report, the pen, and the doors for C over all of these.
+"""The document's rules once more, in plain Python: sines, the two sheets, the length and the course of a leg, whether a target is met, the steps of
+a root, the route text, which is read and written, and its report, the pen, and the doors for C over all of these.
 
 Each rule is written from the document's sentence, which stands above it in quotes, and not from the Rattle definitions. So the tests hold
 the compiled code to a second reading of the same page. What refuses a point buffer, and how a route is written, is quoted from the first of
 the later requests, which angles have a sine from the second, the course from the third, and half ticks from the fourth. The fifth has the
-root found "by the school method": its steps are quoted from the page that shows them, docs/SCHOOL_ROOT.md. Nothing here is quick.
+root found "by the school method": its steps are quoted from the page that shows them, docs/SCHOOL_ROOT.md. The sixth asks whether a target is
+met. Nothing here is quick.
 """
+import itertools
 import math
 import re
 
@@ -205,6 +207,24 @@ def legs_of(points):
 def length_of(points):
     """The millimetres of a route."""
     return sum(leg(*ends) for ends in legs_of(points))
+
+
+# Is the target met?
+
+def lengths_of(points):
+    """The millimetres of each beginning of a route, from none of its points to all."""
+    # a point adds the leg into it, where that is counted; none leads into the first
+    added = (length_of(points[max(k - 1, 0):k + 1]) for k in range(len(points)))
+    return [*itertools.accumulate(added, initial=0)]
+
+
+def target_met(points, target):
+    """1 or 0 for "yes or no", and "how many points were looked at"."""
+    lengths = lengths_of(points)
+    # "Yes holds exactly when the full length is at least the target"
+    met = int(lengths[-1] >= target)
+    # "the number of points is the shortest beginning (none, for target 0) whose length reaches it, or n if none does"
+    return met, next((k for k, length in enumerate(lengths) if length >= target), len(points))
 
 
 # Root, by the school method
@@ -570,6 +590,17 @@ def measure_door(numbers):
     return (refusal, 0) if refusal else (0, length_of(points_of(numbers)))
 
 
+def too_great(target):
+    # "16 only for a target above 999,999,000"
+    return 16 if target > MOST_TARGET else 0
+
+
+def met_door(numbers, target):
+    # "R-1's for the buffer, all found before any leg is measured, then 16"
+    refusal = bad_buffer(numbers) or too_great(target)
+    return (refusal, 0, 0) if refusal else (0, *target_met(points_of(numbers), target))
+
+
 def bad_target(target):
     # "16 target not a whole number of metres or above 999,999,000 mm"
     return 16 if target is not None and (target % METRE != 0 or target > MOST_TARGET) else 0
@@ -616,6 +647,7 @@ DOORS = {
     'course': course_door,
     'root_steps': root_door,
     'measure': measure_door,
+    'target_met': met_door,
     'read_route': read,
     'write_route': write_door,
     'pen_step': pen_door,

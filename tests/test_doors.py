@@ -1,6 +1,6 @@
 """The doors for C, called through the driver doors.c: on the documents' figures, at the limits of every argument, over every row of the
-table, with texts, buffers and outputs wherever they may lie, and on random calls; and what was written is read again, and the steps of a
-root are added up.
+table, with texts, buffers and outputs wherever they may lie, and on random calls; and what was written is read again, the steps of a
+root are added up, and the beginnings of a buffer are measured.
 
 Answers are compared as lines, which have every field and every number or byte of what was lent. What the documents say holds the doors and
 the model; to any other call the doors have to answer what the model answers.
@@ -19,7 +19,7 @@ import calls
 import doors
 import model
 import texts
-from figures import ACCEPTED_TEXTS, DOWN, FIGURES, MEASURES, OTHER_WAYS, REFUSED_TEXTS, THIRD, UP, WRITINGS, route
+from figures import ACCEPTED_TEXTS, DOWN, FIGURES, MEASURES, OTHER_WAYS, PLANS, REFUSED_TEXTS, THIRD, UP, WRITINGS, route
 from model import ENTRIES, HALF_TURN, LEG_UNIT, NUMBERS, QUARTER, QUARTER_IN_HALVES, STEP, STEP_IN_HALVES
 from test_routes import COUNT, ROUTES, SEED
 
@@ -29,7 +29,7 @@ FITTING = [call for call, (refusal, size, *_) in WRITINGS if not refusal and cal
 REFUSALS = {
     'long_sine': {0, 6}, 'short_sine': {0, 6}, 'long_sine_half': {0, 6}, 'cylindrical': {0, 6, 7, 14}, 'sinusoidal': {0, 6, 7, 14},
     'cylindrical_back': {0, 11, 14}, 'sinusoidal_back': {0, 11, 14}, 'leg': {0, 6, 7}, 'course': {0, 6, 7, 18}, 'measure': {0, 6, 7, 9, 17},
-    'read_route': set(range(11)), 'write_route': {0, 6, 7, 9, 15, 16, 17}, 'pen_step': {0, 6, 7, 12, 13, 14},
+    'target_met': {0, 6, 7, 9, 16, 17}, 'read_route': set(range(11)), 'write_route': {0, 6, 7, 9, 15, 16, 17}, 'pen_step': {0, 6, 7, 12, 13, 14},
 }
 NEVER_REFUSED = {'root_steps'}
 
@@ -40,6 +40,7 @@ ANGLE_OF_RATIO, COURSE, COURSE_NUMBERS = model.angle_of_ratio, model.course, mod
 IN_QUARTER, OFFSET_COSINE = model.in_quarter, model.offset_cosine
 HALF_DIFFERENCES, HALF_DOOR, LEG_NUMBER, LONG_SINE_HALF = model.half_differences, model.half_door, model.leg_number, model.long_sine_half
 DIGIT_OF, PAIRS_OF, ROOT_DOOR, ROOT_STEPS = model.digit_of, model.pairs_of, model.root_door, model.root_steps
+LENGTHS_OF, MET_DOOR, TARGET_MET = model.lengths_of, model.met_door, model.target_met
 
 
 def rounded_sinusoidal(latitude, longitude, meridian):
@@ -148,6 +149,46 @@ def zeros_first(number):
 def joined_measure(numbers):
     """Counts every leg, wherever the pen was up."""
     return MEASURE_DOOR([0 if k >= NUMBERS and k % NUMBERS == THIRD and number == 1 else number for k, number in enumerate(numbers)])
+
+
+def answered(change):
+    """Changes how many points were looked at. What changes it gets yes or no, the number and the points."""
+    def met(points, target):
+        yes, looked = TARGET_MET(points, target)
+        return yes, change(yes, looked, points)
+    return met
+
+
+def last_as_long(yes, looked, points):
+    """The longest beginning that has the same length, for the shortest."""
+    lengths = LENGTHS_OF(points)
+    return max(k for k, length in enumerate(lengths) if length == lengths[looked])
+
+
+def longest_leg(points):
+    """The longest leg for the sum."""
+    lengths = LENGTHS_OF(points)
+    return [0, *itertools.accumulate((after - before for before, after in zip(lengths, lengths[1:])), max)]
+
+
+def begun_anew(points):
+    """Begins a new sum wherever the pen was up."""
+    lengths, anew = LENGTHS_OF(points), [0]
+    for before, after, point in zip(lengths, lengths[1:], points):
+        anew.append(0 if point[THIRD] else anew[-1] + after - before)
+    return anew
+
+
+def found_late(number):
+    """Looks for what is refused by this number only in the points that it looks at."""
+    def door(numbers, target):
+        if model.bad_buffer(numbers) == number:
+            good = next(numbers[:end] for end in reversed(range(len(numbers))) if not model.bad_buffer(numbers[:end]))
+            answer = MET_DOOR(good, target)
+            if answer[1]:
+                return answer
+        return MET_DOOR(numbers, target)
+    return door
 
 
 def all_decimals(number, mark, decimals):
@@ -332,6 +373,34 @@ WRONG = [
     ('DOORS', {**model.DOORS, 'pen_step': lifting_step}),
     ('DOORS', {**model.DOORS, 'pen_step': short_pen}),
     ('DOORS', {**model.DOORS, 'measure': joined_measure}),
+    # more than the target asked for, and a millimetre less; the last leg left out; every leg counted, wherever the pen was up; the longest leg for
+    # the sum; a new sum where the pen was up
+    ('target_met', lambda points, target: TARGET_MET(points, target and target + 1)),
+    ('target_met', lambda points, target: TARGET_MET(points, max(target - 1, 0))),
+    ('lengths_of', lambda points: LENGTHS_OF([*points[:-1], *((0, 0, 1) for _ in points[-1:])])),
+    ('lengths_of', lambda points: LENGTHS_OF([(*point[:THIRD], 0) for point in points])),
+    ('lengths_of', longest_leg),
+    ('lengths_of', begun_anew),
+    # yes only where points are left
+    ('target_met', lambda points, target: (int(TARGET_MET(points, target)[1] < len(points)), TARGET_MET(points, target)[1])),
+    # a point more looked at; the longest beginning that does not reach the target; the longest of those that are as long; counted legs for points;
+    # every point for target 0, and one; none where the target is not met
+    ('target_met', answered(lambda yes, looked, points: min(looked + yes, len(points)))),
+    ('target_met', answered(lambda yes, looked, points: max(looked - yes, 0))),
+    ('target_met', answered(last_as_long)),
+    ('target_met', answered(lambda yes, looked, points: len(model.legs_of(points[:looked])))),
+    ('target_met', answered(lambda yes, looked, points: looked or len(points))),
+    ('target_met', answered(lambda yes, looked, points: looked or min(1, len(points)))),
+    ('target_met', answered(lambda yes, looked, points: yes and looked)),
+    # part metres refused, the greatest target too, and a greater one accepted; 32 bits of a target; 16 before what refuses the buffer, and target 0
+    # answered before that; each refusal found only in the points that are looked at
+    ('too_great', model.bad_target),
+    ('too_great', lambda target: 16 if target >= 999_999_000 else 0),
+    ('too_great', lambda target: 16 if target > 10**9 else 0),
+    *(('DOORS', {**model.DOORS, 'target_met': wrong}) for wrong in (
+        lambda numbers, target: MET_DOOR(numbers, target % 2**32),
+        lambda numbers, target: (16, 0, 0) if model.too_great(target) else MET_DOOR(numbers, target),
+        lambda numbers, target: MET_DOOR(numbers, target) if target else (0, 1, 0), *map(found_late, (6, 7, 9, 17)))),
     # numbers behind the last point left out; 9 before 17; third numbers judged in the first point alone, and in all points but the first
     ('DOORS', {**model.DOORS, 'measure': lambda numbers: MEASURE_DOOR(numbers[:len(numbers) // NUMBERS * NUMBERS])}),
     ('bad_thirds', lambda numbers: model.bad_count(numbers) or BAD_THIRDS(numbers)),
@@ -365,14 +434,17 @@ WRONG = [
         numbers, has_target, target, comma % 256, *more)}),
 ]
 # what chance brings seldom or never: the sine of 0 half ticks refused; m, the last product and r worked out in floats; a root of ten
-# digits one less at its square; third numbers behind the 1,000th point not judged; 6 of all points before 7 of any; one byte or one target taken
-# for another
+# digits one less at its square; the first target that is too great accepted; the sum in 32 bits, with a sign and without, that a target is held
+# to; third numbers behind the 1,000th point not judged; 6 of all points before 7 of any; one byte or one target taken for another
 WRONG_SELDOM = [
     ('half_ticks_in_range', lambda half_ticks: 0 < half_ticks <= QUARTER_IN_HALVES),
     ('leg_number', number_by(product=lambda cosine, cosine2: int(cosine * cosine2 / LEG_UNIT))),
     ('leg_number', number_by(last=lambda m, sine: int(m * sine**2 / LEG_UNIT))),
     ('leg', lambda *leg: GREATEST_ANGLE(int(math.sqrt(LEG_NUMBER(*leg)))) * model.MILLIMETRES // model.DEGREE),
     ('digit_of', lambda root, rest: DIGIT_OF(root, rest - (root >= 10**8 and rest > 0))),
+    ('too_great', lambda target: 16 if target > 999_999_001 else 0),
+    ('lengths_of', lambda points: [(length + 2**31) % 2**32 - 2**31 for length in LENGTHS_OF(points)]),
+    ('lengths_of', lambda points: [length % 2**32 for length in LENGTHS_OF(points)]),
     ('bad_thirds', lambda numbers: BAD_THIRDS(numbers if len(numbers) % NUMBERS else numbers[:model.MOST_NUMBERS])),
     ('bad_points', lambda points: BAD_POINTS([(point[0], 0, 0) for point in points]) or BAD_POINTS(points)),
     ('number_of', lambda field, *more, **rule: NUMBER_OF(field.replace(b'\xb5', b'5'), *more, **rule)),
@@ -394,7 +466,7 @@ def modelled(given):
             *route, room, place = arguments
             output = doors.lent_output(room)
             yield doors.line_of((*model.DOORS[door](*route, output, place), 1, bytes(output)))
-        elif door == 'measure':
+        elif door in ('measure', 'target_met'):
             yield doors.line_of((*model.DOORS[door](*arguments), 1))
         else:
             yield doors.line_of(model.DOORS[door](*arguments))
@@ -460,6 +532,19 @@ def broken(number, line):
         yield 'behind the last step there are zeros'
 
 
+def unmet(target, lengths, line):
+    """What an answer of `target_met` does not keep of these sentences, by the lengths of the buffer's beginnings."""
+    _, met, looked, _ = map(int, line.split())
+    if met != (lengths[-1] >= target):
+        yield 'yes holds exactly when the full length is at least the target'
+    if not 0 <= looked < len(lengths) or (met and lengths[looked] < target):
+        yield 'the beginning is one whose length reaches it'
+    if met and any(length >= target for length in lengths[:looked]):
+        yield 'it is the shortest such one'
+    if not met and looked != len(lengths) - 1:
+        yield 'the number is n if none does'
+
+
 def answered_runs(some, count, length):
     """Runs of steps with the doors' answers: a new pen is up, and each step gets the pen that the step before it answered."""
     given, said, pens = [], [], count * [UP]
@@ -516,6 +601,12 @@ class Compared:
         self.assertEqual(strokes, {'0', '1', '2'})
         quarters = {int(line.split()[1]) // QUARTER for (door, *_), line in zip(self.given, self.said) if door == 'course' and line.split()[0] == '0'}
         self.assertEqual(quarters, {0, 1, 2, 3})
+        looked = set()
+        for (door, numbers, *_), line in zip(self.given, self.said):
+            if door == 'target_met' and line.startswith('0 '):
+                met, points = map(int, line.split()[1:3])
+                looked.add((met, points if points < 2 else 'all' if NUMBERS * points == len(numbers) else 'some'))
+        self.assertEqual(looked, {(1, 0), (1, 'some'), (1, 'all'), (0, 0), (0, 1), (0, 'all')})
         workings = [working_of(line) for (door, *_), line in zip(self.given, self.said) if door == 'root_steps']
         self.assertEqual({count for _, count, _ in workings}, set(range(1, model.MOST_PAIRS + 1)))
         digits = {(at, steps[at][1]) for _, count, steps in workings for at in range(1, count)}
@@ -539,7 +630,8 @@ class Fixed(Compared, unittest.TestCase):
     @classmethod
     def setUpClass(cls):
         cls.given = [*Figures.given, *calls.every_byte(), *calls.sines(), *calls.half_sines(), *calls.sheets(), *calls.places(), *calls.legs(),
-                     *calls.courses(), *calls.steps(), *calls.files(ROUTES), *calls.writings(), *calls.roots()]
+                     *calls.courses(), *calls.steps(), *calls.files(ROUTES), *calls.writings(), *calls.roots(), *calls.targets()]
+        random.Random(SEED).shuffle(cls.given)  # as Random does
         cls.said = doors.answers(cls.given)
 
 
@@ -617,10 +709,36 @@ class Worked(unittest.TestCase):
         self.assertEqual((over, max(quotients)), ({0, 1, 2, 3}, 14))
 
 
+class Met(unittest.TestCase):
+    """Whether targets are met, held to what the door `measure` answers to every beginning of the buffer."""
+
+    @classmethod
+    def setUpClass(cls):
+        some = random.Random(SEED)
+        # of the random buffers the short ones
+        given = [*calls.targets(), *(call for call in calls.random_targets(some, 2 * COUNT) if len(call[1]) < 100)]
+        cls.said = [(call[1:], line) for call, line in zip(given, doors.answers(given)) if line.startswith('0 ')]
+        beginnings = [(numbers, end) for numbers in {numbers for (numbers, _), _ in cls.said} for end in range(0, len(numbers) + 1, NUMBERS)]
+        cls.lengths = collections.defaultdict(list)
+        for (numbers, _), line in zip(beginnings, doors.answers([('measure', numbers[:end]) for numbers, end in beginnings])):
+            cls.lengths[numbers].append(int(line.split()[1]))
+
+    def test_every_answer_agrees_with_the_lengths(self):
+        self.assertGreater(len(self.said), 1_000)
+        self.assertEqual([(numbers, target, line) for (numbers, target), line in self.said if any(unmet(target, self.lengths[numbers], line))], [])
+
+    def test_an_answer_with_one_number_changed_is_seen(self):
+        for (numbers, target), line in self.said:
+            _, met, looked, _ = map(int, line.split())
+            for wrong in ((1 - met, looked), (met, looked - 1), (met, looked + 1)):
+                self.assertTrue(any(unmet(target, self.lengths[numbers], doors.line_of((0, *wrong, 1)))), (numbers, target, wrong))
+
+
 class Placed(unittest.TestCase):
     """Texts, buffers and outputs at every alignment, and right beside memory that may not be read."""
     GIVEN = [*(('read_route', calls.room_for(text.count(b'\np\t')), text) for text, *_ in (*REFUSED_TEXTS, *ACCEPTED_TEXTS)),
-             *(call for call, _ in MEASURES), *FITTING, ('write_route', (), 0, 0, 0, 0, 0)]
+             *(call for call, _ in MEASURES), *(('target_met', numbers, target) for numbers, answers in PLANS.items() for target in answers),
+             *FITTING, ('write_route', (), 0, 0, 0, 0, 0)]
 
     def differing_at(self, places, given):
         placed = [('at', place, *call) for call in given for place in places]
@@ -654,6 +772,7 @@ class Counts(unittest.TestCase):
         # "17 buffer not a multiple of three"; a multiple of three is judged to its end, which takes more than a test has
         counts = (2**32, 2**32 + 1, 2**32 + 3, 2**61 - 1)
         self.assertEqual(doors.answers([('far', count, 'measure', (0, 0, 1)) for count in counts]), len(counts) * ['17 0 1'])
+        self.assertEqual(doors.answers([('far', count, 'target_met', (0, 0, 1), 0) for count in counts]), len(counts) * ['17 0 0 1'])
         self.assertEqual(doors.answers([('far_points', count) for count in counts]), len(counts) * ['17 0'])
 
     def test_an_output(self):
@@ -712,7 +831,7 @@ class Random(Compared, unittest.TestCase):
     def setUpClass(cls):
         some = random.Random(SEED)
         cls.given = [*calls.random_calls(some, 80 * COUNT), *calls.random_readings(some, COUNT), *calls.random_measures(some, COUNT),
-                     *calls.random_writings(some, 2 * COUNT)]
+                     *calls.random_targets(some, COUNT), *calls.random_writings(some, 2 * COUNT)]
         some.shuffle(cls.given)  # so that what is wrong with one door is seen before all the others are through
         cls.said = doors.answers(cls.given)
         given, said = answered_runs(some, COUNT // 4, 40)
@@ -750,9 +869,18 @@ class Guards(unittest.TestCase):
             %(after_measuring)s;
             return r;
         }
+        senruhobi_met __real_senruhobi_target_met(const int32_t *, size_t, uint64_t);
+        senruhobi_met __wrap_senruhobi_target_met(const int32_t *points, size_t numbers, uint64_t target)
+        {
+            %(before_asking)s;
+            senruhobi_met r = __real_senruhobi_target_met(points, numbers, target);
+            %(after_asking)s;
+            return r;
+        }
     """
     READ = [('read_route', 8, route('point', 'p 0 0', 'p 0 90')), ('read_route', 8, route('point', 'p 0 0')[:-1])]
     MEASURED = [('measure', (0, 0, 1, 0, 900_000_000, 0)), ('measure', (0, 0, 0))]
+    ASKED = [('target_met', (0, 0, 1, 0, 900_000_000, 0), 1), ('target_met', (0, 0, 0), 1)]
     WRITTEN = [('write_route', (0, 0, 1, 0, 900_000_000, 0), 0, 0, 0, 40, 7), ('write_route', (0, 0, 0), 0, 0, 0, 40, 7)]
 
     def answers(self, given, **spoilt):
@@ -760,7 +888,7 @@ class Guards(unittest.TestCase):
         with tempfile.TemporaryDirectory() as room:
             source = pathlib.Path(room) / 'between.c'
             source.write_text(self.BETWEEN % collections.defaultdict(str, spoilt), encoding='utf-8')
-            wrapped = [f'--wrap=senruhobi_{door}' for door in ('read_route', 'measure', 'write_route')]
+            wrapped = [f'--wrap=senruhobi_{door}' for door in ('read_route', 'measure', 'target_met', 'write_route')]
             return doors.answers(given, doors.linked(source.parent, *wrapped, doors.compiled(source, source.parent)))
 
     def seen(self, given, **spoilt):
@@ -768,7 +896,7 @@ class Guards(unittest.TestCase):
         return len(differing(given, self.answers(given, **spoilt), modelled(map(plain, given)), most=len(given)))
 
     def test_doors_that_are_not_spoilt(self):
-        given = [*self.READ, *self.MEASURED, *self.WRITTEN]
+        given = [*self.READ, *self.MEASURED, *self.ASKED, *self.WRITTEN]
         self.assertEqual(self.seen([*given, *(('at', place, *call) for call in given for place in (0, -1))]), 0)
 
     def test_a_door_that_changes_what_is_not_its_own(self):
@@ -779,7 +907,8 @@ class Guards(unittest.TestCase):
         for place in ('[-1]', '[-4096]', '[numbers]', '[12287]', '[0]', '[numbers - 1]'):
             with self.subTest(place):
                 spoilt = f'((int32_t *)points){place} = 7'
-                self.assertEqual(self.seen([*self.MEASURED, *self.WRITTEN], after_measuring=spoilt, after_writing=spoilt), 4)
+                given = [*self.MEASURED, *self.ASKED, *self.WRITTEN]
+                self.assertEqual(self.seen(given, after_measuring=spoilt, after_asking=spoilt, after_writing=spoilt), 6)
         for place in ('[-1]', '[-4096]', '[bytes]', '[61439]'):
             with self.subTest(place):
                 self.assertEqual(self.seen(self.WRITTEN, after_writing=f'out{place} = 7'), 2)
@@ -798,6 +927,7 @@ class Guards(unittest.TestCase):
     def test_a_door_that_looks_where_it_may_not(self):
         for when, call, begin, behind in (('before_reading', self.READ[0], 'text', 'bytes'), ('before_reading', self.READ[0], 'buffer', 'numbers'),
                                           ('before_measuring', self.MEASURED[0], 'points', 'numbers'),
+                                          ('before_asking', self.ASKED[0], 'points', 'numbers'),
                                           ('before_writing', self.WRITTEN[0], 'points', 'numbers'),
                                           ('before_writing', self.WRITTEN[0], 'out', 'bytes')):
             for place, what in ((0, f'{begin} - 1'), (-1, f'{begin} + {behind}')):
@@ -806,11 +936,12 @@ class Guards(unittest.TestCase):
 
     def test_a_door_that_takes_32_bits_of_a_count(self):
         cut = {'before_reading': 'bytes = (uint32_t)bytes, numbers = (uint32_t)numbers', 'before_measuring': 'numbers = (uint32_t)numbers',
+               'before_asking': 'numbers = (uint32_t)numbers',
                'before_writing': 'numbers = (uint32_t)numbers, bytes = (uint32_t)bytes, place = (uint32_t)place'}
         given = [('far_text', 2**32), *(('far', 2**32 + 5, *call) for call in self.READ), ('far', 2**32 + 3, 'measure', (0, 0, 1)),
-                 ('far_points', 2**32), ('far', 2**32 + 5, *self.WRITTEN[0]), (*self.WRITTEN[0][:-1], 2**32)]
-        self.assertEqual([line.split()[0] for line in self.answers(given)], ['1', '0', '3', '17', '17', '0', '15'])
-        self.assertEqual([line.split()[0] for line in self.answers(given, **cut)], ['2', '10', '3', '0', '15', '15', '0'])
+                 ('far', 2**32 + 3, 'target_met', (0, 0, 1), 0), ('far_points', 2**32), ('far', 2**32 + 5, *self.WRITTEN[0]), (*self.WRITTEN[0][:-1], 2**32)]
+        self.assertEqual([line.split()[0] for line in self.answers(given)], ['1', '0', '3', '17', '17', '17', '0', '15'])
+        self.assertEqual([line.split()[0] for line in self.answers(given, **cut)], ['2', '10', '3', '0', '0', '15', '15', '0'])
         with self.assertRaisesRegex(RuntimeError, 'where it may not'):
             self.answers([('far_text', 2**32 + 12)], **cut)
 

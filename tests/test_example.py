@@ -26,7 +26,8 @@ def expected():
     """What the example has to print, by the model."""
     buffer = [0] * model.MOST_NUMBERS
     refusal, line, points, has_target, length, target = model.DOORS['read_route'](TEXT, buffer)
-    said = [f'{points} points, {length} mm', f'target {target} mm']
+    refusal, met, looked = model.DOORS['target_met'](buffer[:model.NUMBERS * points], target)
+    said = [f'{points} points, {length} mm', f'target {target} mm, {"met" if met else "not met"}: {looked} points looked at']
     pen = 0
     for at in range(0, model.NUMBERS * points, model.NUMBERS):
         latitude, longitude, third, *_ = buffer[at:at + model.NUMBERS]

@@ -33,3 +33,6 @@ course = answers (λ κs a v w. refl)
 
 pub measure : One globe.measure.ended globe.measure.Reads.Asked globe.measure.Reads.Learnt
 measure = answers (λ κs a v w. refl)
+
+pub target-met : One globe.target_met.ended globe.target_met.Reads.Asked globe.target_met.Reads.Learnt
+target-met = answers (λ κs a v w. refl)

@@ -1,17 +1,18 @@
--- How long a point buffer is at most, that one which is accepted is measured, and what a further point adds.
+-- How long a point buffer is at most, that its beginnings never fall in length, that one which is accepted is measured, and so is a beginning of it, and what a further point adds.
 -- Assumes nothing.
-use mathlib.Core.Path.{_≡_, refl, ap, ap₂}
+use mathlib.Core.Path.{_≡_, refl, sym, ap, _∙_}
 use mathlib.Core.Bool.{Bool, true, false}
 use mathlib.Core.List.{List, _++_}
 use Prim.Native.Nat.{ℕ, zero, suc, _+_, _-_, _*_, _≤_, _<_}
+use native.Mathlib.Nat.{add-zero, le-refl}
 use native.Mathlib.Omega.{arith}
 use lib.IntN.{ℤ, pos}
-use lib.ListN.{length, getD, length-append, List·getD-append}
+use lib.ListN.{length, take, drop, getD, take-append-drop, length-append, List·getD-append}
 use lib.Seq.{getD-append-add}
 use Rattle.refusals.specs.Choice.{if_then_else_}
 use Rattle.signed.specs.Tests.{eqZ}
 use Rattle.points.specs.Points.{numbers, pointNumbers, partAt, latitudeAt, longitudeAt, thirdAt, count, bufferRefusal}
-use Rattle.points.specs.PointLaws.{accepted}
+use Rattle.points.specs.PointLaws.{accepted, count-first, first-accepted}
 use Rattle.globe.specs.declared.Length.the-variants.{Millimetres}
 use Rattle.globe.specs.Leg.{legLength}
 use Rattle.globe.specs.LegLaws.{longestLeg, longest}
@@ -29,6 +30,15 @@ pub length-longest : (b : List ℤ) (n : ℕ) → lengthUpTo b n ≤ n * longest
 unfolding lengthUpTo
 length-longest b zero = omega arith
 length-longest b (suc n) = omega (arith, length-longest b n, leg-longest b n)
+
+-- a beginning is never longer than one of more points
+pub length-grows : (b : List ℤ) (k n : ℕ) → k ≤ n → lengthUpTo b k ≤ lengthUpTo b n
+unfolding lengthUpTo
+length-grows b k n h = let e : k + (n - k) ≡ n = omega arith in rw e at (go (n - k))
+  where
+    go : (d : ℕ) → lengthUpTo b k ≤ lengthUpTo b (k + d)
+    go zero = rw add-zero (le-refl _)
+    go (suc d) = let e : k + suc d ≡ suc (k + d) = omega arith in rw e (omega (arith, go d))
 
 pub accepted-measured : (b : List ℤ) → bufferRefusal b ≡ 0 → measureOf b ≡ Millimetres (lengthUpTo b (count b))
 unfolding measureOf
@@ -48,7 +58,14 @@ leg-before b e i h =
 length-before : (b e : List ℤ) (n : ℕ) → n ≤ count b → lengthUpTo (b ++ e) n ≡ lengthUpTo b n
 unfolding lengthUpTo
 length-before b e zero h = refl
-length-before b e (suc n) h = ap₂ (λ (x y : ℕ). x + y) (length-before b e n (omega arith)) (leg-before b e n (omega arith))
+length-before b e (suc n) h = rw (length-before b e n (omega arith), leg-before b e n (omega arith))
+
+-- the first points, measured as a buffer
+pub first-measured : (b : List ℤ) (h : bufferRefusal b ≡ 0) (k : ℕ) → k ≤ count b → measureOf (take (numbers * k) b) ≡ Millimetres (lengthUpTo b k)
+first-measured b h k l =
+    let c = count-first b h k l in
+    accepted-measured (take (numbers * k) b) (first-accepted b h k l) ∙
+    rw c (ap Millimetres (sym (length-before (take (numbers * k) b) (drop (numbers * k) b) k (omega arith)) ∙ rw (take-append-drop (numbers * k) b)))
 
 module _ (b : List ℤ) (lat lon third : ℤ) (h : bufferRefusal b ≡ 0) where
   pub count-next : count (b ++ pointNumbers lat lon third) ≡ suc (count b)

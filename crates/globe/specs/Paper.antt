@@ -16,6 +16,9 @@ use Rattle.globe.specs.declared.LengthOut.{LengthOut}
 use Rattle.globe.specs.declared.Direction.{Direction}
 use Rattle.globe.specs.declared.Direction.the-variants as D
 use Rattle.globe.specs.declared.DirectionOut.{DirectionOut}
+use Rattle.globe.specs.declared.Met.{Met}
+use Rattle.globe.specs.declared.Met.the-variants as M
+use Rattle.globe.specs.declared.MetOut.{MetOut}
 
 abbrev pub sinePaper : Sine → SineOut
 sinePaper (S.Value v) = record { refusal = 0; value = v }
@@ -36,3 +39,9 @@ lengthPaper (L.Refused n) = record { refusal = n; millimetres = 0 }
 abbrev pub directionPaper : Direction → DirectionOut
 directionPaper (D.Ticks n) = record { refusal = 0; ticks = n }
 directionPaper (D.Refused n) = record { refusal = n; ticks = 0 }
+
+-- 1 is yes, 0 no
+abbrev pub metPaper : Met → MetOut
+metPaper (M.Yes n) = record { refusal = 0; met = 1; points = n }
+metPaper (M.No n) = record { refusal = 0; met = 0; points = n }
+metPaper (M.Refused n) = record { refusal = n; met = 0; points = 0 }

@@ -1,16 +1,21 @@
-// The length of a point buffer, by a lent table of sines.
+// The length of a point buffer, and whether it meets a target, by a lent table of sines.
 ghost use mathlib.Core.Path.{_≡_};
 ghost use Prim.Native.Nat.{_<_};
 ghost use Rattle.sines.specs.Table.{sines};
 ghost use Rattle.points.specs.Points.{count, bufferRefusal};
 ghost use Rattle.globe.specs.Measure.{legInto, lengthUpTo, measureOf};
+ghost use Rattle.globe.specs.Met.{walked, metOf};
 use crate::Length;
+use crate::MOST_TARGET;
+use crate::Met;
 use crate::legs::leg_length;
 use points::buffer_refusal;
 use points::count;
 use points::latitude;
 use points::longitude;
 use points::third;
+use refusals::TARGET;
+use refusals::first_of;
 use sines::Entries;
 
 // The leg into point `i`, 0 where it is not counted.
@@ -59,4 +64,37 @@ pub(crate) fn measure(t: &Entries, points: &[i32]) -> Length
         return Length::Refused(refusal);
     }
     Length::Millimetres(length_of(t, points))
+}
+
+// From point to point until the sum of the legs reaches the target.
+fn walk(t: &Entries, points: &[i32], target: u64) -> Met
+    requires { ⌜ now t ≡ sines ⌝ }
+    requires { ⌜ bufferRefusal (now points) ≡ 0 ⌝ }
+    ensures { λ r. ⌜ r ≡ walked (now (points .entry)) target ⌝ }
+{
+    let n = count(points);
+    let mut sum: u64 = 0;
+    let mut i = 0;
+    while (sum < target) & (i < n) {
+        sum += leg_into(t, points, i);
+        i += 1;
+    }
+    let looked_at = i as u32;
+    if target <= sum {
+        return Met::Yes(looked_at);
+    }
+    Met::No(looked_at)
+}
+
+// Whether a whole point buffer meets a target. Everything that is refused is found before any leg is measured.
+pub(crate) fn target_met(t: &Entries, points: &[i32], target: u64) -> Met
+    requires { ⌜ now t ≡ sines ⌝ }
+    ensures { λ r. ⌜ r ≡ metOf (now (points .entry)) target ⌝ }
+{
+    let of_target = if target <= MOST_TARGET { 0 } else { TARGET };
+    let refusal = first_of(buffer_refusal(points), of_target);
+    if refusal != 0 {
+        return Met::Refused(refusal);
+    }
+    walk(t, points, target)
 }

@@ -1,4 +1,4 @@
-// The globe: sines of an angle, two sheets there and back, lengths and courses. Every answer is a value or a refusal's number.
+// The globe: sines of an angle, two sheets there and back, lengths, courses and whether a target is met. Every answer is a value or a refusal's number.
 // Each function makes the table of sines first of all and lends it to the work: nothing returns before it is made, since the compiled
 // code can go wrong where a function returns before it makes a large local (docs/DECISIONS.md, "The table is made first").
 ghost use mathlib.Core.Path.{_≡_};
@@ -7,6 +7,7 @@ ghost use Rattle.globe.specs.Sheet.{cylindricalOf, sinusoidalOf, cylindr
 ghost use Rattle.globe.specs.Leg.{legOf};
 ghost use Rattle.globe.specs.Measure.{measureOf};
 ghost use Rattle.globe.specs.Course.{courseOf};
+ghost use Rattle.globe.specs.Met.{metOf};
 
 mod buffer;
 mod courses;
@@ -25,6 +26,9 @@ pub const SHORT_UNIT: u64 = 1_000_000_000;
 pub const DEGREE: u64 = 10_000_000;
 
 pub const DEGREE_LENGTH: u64 = 111_194_927;
+
+// The greatest target, in millimetres.
+pub const MOST_TARGET: u64 = 999_999_000;
 
 pub enum Sine {
     Value(i64),
@@ -51,6 +55,13 @@ pub enum Length {
 // A course in ticks east of north, from 0 up to but not including a full turn: 32 bits hold it only without a sign.
 pub enum Direction {
     Ticks(u32),
+    Refused(u32),
+}
+
+// Whether a target is met, with the number of points that were looked at.
+pub enum Met {
+    Yes(u32),
+    No(u32),
     Refused(u32),
 }
 
@@ -85,6 +96,14 @@ pub struct LengthOut {
 pub struct DirectionOut {
     pub refusal: u32,
     pub ticks: u32,
+}
+
+// met: 1 yes, 0 no.
+#[repr(C)]
+pub struct MetOut {
+    pub refusal: u32,
+    pub met: u32,
+    pub points: u32,
 }
 
 // 10^13 times the sine of an angle from -180 to 180 degrees.
@@ -165,4 +184,12 @@ pub fn measure(points: &[i32]) -> Length
 {
     let t = table_of_sines();
     buffer::measure(&t, points)
+}
+
+// Whether a point buffer is at least as long as a target in millimetres, and how many points are looked at: until it is, or all.
+pub fn target_met(points: &[i32], target: u64) -> Met
+    ensures { λ r. ⌜ r ≡ metOf (now (points .entry)) target ⌝ }
+{
+    let t = table_of_sines();
+    buffer::target_met(&t, points, target)
 }

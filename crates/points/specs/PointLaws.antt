@@ -1,4 +1,4 @@
--- What is known of an accepted point buffer, that the numbers of points one after the other are accepted, and what a stored point leaves.
+-- What is known of an accepted point buffer and of its beginnings, that the numbers of points one after the other are accepted, and what a stored point leaves.
 -- Assumes nothing.
 use mathlib.Core.Path.{_≡_, refl}
 use mathlib.Core.Bool.{true, false, _&&_}
@@ -12,7 +12,7 @@ use borrow.Author.Tests.{eqb-true, leb-true, eq-eqb, le-leb, lt-ltb, le-ltb}
 use lib.Dec.{leb, eqb}
 use lib.IntN.{ℤ, pos}
 use lib.ListN.{length, take, set}
-use lib.Seq.{take-all, take-suc, sets}
+use lib.Seq.{take-all, take-suc, length-take-le, getD-take, sets}
 use mir.Syntax.{w32}
 use mir.Facts.{toZ-ofZ}
 use mir.Val.{toZ, ofZ}
@@ -107,6 +107,34 @@ module _ (b : List ℤ) where
   -- those of all points are the whole buffer
   pub take-points : bufferRefusal b ≡ 0 → take (numbers * count b) b ≡ b
   take-points e = take-all (numbers * count b) b (omega (arith, accepted b e .whole))
+
+-- ---- a beginning
+
+-- the first k points of an accepted buffer are accepted too
+module _ (b : List ℤ) (h : bufferRefusal b ≡ 0) (k : ℕ) (l : k ≤ count b) where
+  abbrev first : List ℤ
+  first = take (numbers * k) b
+
+  first-length : length first ≡ numbers * k
+  first-length = length-take-le (numbers * k) b (omega arith)
+
+  pub count-first : count first ≡ k
+  count-first = omega (arith, first-length)
+
+  part-first : (i j : ℕ) → i < k → j < numbers → partAt first i j ≡ partAt b i j
+  part-first i j m n = getD-take (numbers * k) b (numbers * i + j) (pos 0) (omega arith)
+
+  first-thirds : (i : ℕ) → i < k → Fits first i
+  first-thirds i m = rw (part-first i 2 m (omega arith)) (thirds-of b (count b) (accepted b h .thirds) i (omega arith))
+
+  first-unrefused : (i : ℕ) → i < k → Unrefused first i
+  first-unrefused i m = rw (part-first i 0 m (omega arith), part-first i 1 m (omega arith)) (unrefused-of b (count b) (accepted b h .points) i (omega arith))
+
+  pub first-accepted : bufferRefusal first ≡ 0
+  unfolding bufferRefusal
+  first-accepted =
+      rw (eq-eqb (length first % numbers) 0 (omega (arith, first-length)), count-first, thirds-fit first k first-thirds, le-leb k mostPoints (omega (arith, accepted b h .few)))
+      (none-refused first k first-unrefused)
 
 -- ---- a list of points is accepted
 

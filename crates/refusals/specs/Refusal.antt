@@ -64,7 +64,7 @@ MERIDIAN = 14
 abbrev pub OUTPUT : ℕ
 OUTPUT = 15
 
--- "target not a whole number of metres or above 999,999,000 mm"
+-- "target not a whole number of metres or above 999,999,000 mm"; of the question whether it is met, "only for a target above 999,999,000"
 abbrev pub TARGET : ℕ
 TARGET = 16
 

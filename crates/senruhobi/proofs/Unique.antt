@@ -40,6 +40,9 @@ senruhobi-root-steps = answers (λ κs a v w. refl)
 pub senruhobi-measure : One senruhobi.senruhobi_measure.ended senruhobi.senruhobi_measure.Reads.Asked senruhobi.senruhobi_measure.Reads.Learnt
 senruhobi-measure = answers (λ κs a v w. refl)
 
+pub senruhobi-target-met : One senruhobi.senruhobi_target_met.ended senruhobi.senruhobi_target_met.Reads.Asked senruhobi.senruhobi_target_met.Reads.Learnt
+senruhobi-target-met = answers (λ κs a v w. refl)
+
 pub senruhobi-read-route : One senruhobi.senruhobi_read_route.ended senruhobi.senruhobi_read_route.Reads.Asked senruhobi.senruhobi_read_route.Reads.Learnt
 senruhobi-read-route = leaves (λ κs a v w p. ap (λ (l : List ℤ). (tt, (l, tt))) p)
 

@@ -4,12 +4,13 @@
 ghost use mathlib.Core.Path.{_≡_};
 ghost use lib.ListN.{length};
 ghost use Rattle.roots.specs.School.{schoolOf};
-ghost use Rattle.globe.specs.Paper.{sinePaper, placePaper, pointPaper, lengthPaper, directionPaper};
+ghost use Rattle.globe.specs.Paper.{sinePaper, placePaper, pointPaper, lengthPaper, directionPaper, metPaper};
 ghost use Rattle.globe.specs.Angle.{longSineOf, shortSineOf, longSineHalfOf};
 ghost use Rattle.globe.specs.Sheet.{cylindricalOf, sinusoidalOf, cylindricalBackOf, sinusoidalBackOf};
 ghost use Rattle.globe.specs.Leg.{legOf};
 ghost use Rattle.globe.specs.Measure.{measureOf};
 ghost use Rattle.globe.specs.Course.{courseOf};
+ghost use Rattle.globe.specs.Met.{metOf};
 ghost use Rattle.route.specs.Paper.{readingPaper};
 ghost use Rattle.route.specs.Route.{readingOf, bufferOf};
 ghost use Rattle.writer.specs.Paper.{answer, left, targetOf, markOf};
@@ -19,6 +20,7 @@ mod out;
 
 use globe::DirectionOut;
 use globe::LengthOut;
+use globe::MetOut;
 use globe::PlaceOut;
 use globe::PointOut;
 use globe::SineOut;
@@ -117,6 +119,13 @@ pub extern "C" fn senruhobi_measure(points: &[i32]) -> LengthOut
     ensures { λ r. ⌜ r ≡ lengthPaper (measureOf (now (points .entry))) ⌝ }
 {
     out::length(globe::measure(points))
+}
+
+#[no_mangle]
+pub extern "C" fn senruhobi_target_met(points: &[i32], target: u64) -> MetOut
+    ensures { λ r. ⌜ r ≡ metPaper (metOf (now (points .entry)) target) ⌝ }
+{
+    out::met(globe::target_met(points, target))
 }
 
 #[no_mangle]

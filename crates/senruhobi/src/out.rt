@@ -1,6 +1,6 @@
 // Each answer as the struct that goes out: the paper's number and values, zeros beside a refusal.
 ghost use mathlib.Core.Path.{_≡_};
-ghost use Rattle.globe.specs.Paper.{sinePaper, placePaper, pointPaper, lengthPaper, directionPaper};
+ghost use Rattle.globe.specs.Paper.{sinePaper, placePaper, pointPaper, lengthPaper, directionPaper, metPaper};
 ghost use Rattle.route.specs.declared.Reading.the-variants.{Route};
 ghost use Rattle.route.specs.Paper.{readingPaper};
 ghost use Rattle.numerals.specs.Paper.{writingPaper};
@@ -9,6 +9,8 @@ use globe::Direction;
 use globe::DirectionOut;
 use globe::Length;
 use globe::LengthOut;
+use globe::Met;
+use globe::MetOut;
 use globe::Place;
 use globe::PlaceOut;
 use globe::Point;
@@ -86,6 +88,28 @@ pub(crate) fn direction(d: Direction) -> DirectionOut
     match d {
         Direction::Ticks(ticks) => DirectionOut { refusal: 0, ticks },
         Direction::Refused(refusal) => DirectionOut { refusal, ticks: 0 },
+    }
+}
+
+pub(crate) fn met(m: Met) -> MetOut
+    ensures { λ r. ⌜ r ≡ metPaper m ⌝ }
+{
+    match m {
+        Met::Yes(points) => MetOut {
+            refusal: 0,
+            met: 1,
+            points,
+        },
+        Met::No(points) => MetOut {
+            refusal: 0,
+            met: 0,
+            points,
+        },
+        Met::Refused(refusal) => MetOut {
+            refusal,
+            met: 0,
+            points: 0,
+        },
     }
 }
 

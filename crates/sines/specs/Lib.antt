@@ -4,6 +4,8 @@ pub mod Sine
 pub mod SineLaws
 pub mod Greatest
 pub mod GreatestLaws
+pub mod Least
+pub mod LeastLaws
 pub mod Halving
 pub mod Back
 pub mod BackLaws

@@ -15,6 +15,7 @@ use Rattle.points.specs.Points.{count, bufferRefusal}
 use Rattle.points.specs.Promises.{Judged, buffer-judged}
 use Rattle.globe.specs.Measure.{measureOf}
 use Rattle.globe.specs.MeasureLaws.{accepted-measured}
+use Rattle.globe.specs.Met.{mostTarget}
 use Rattle.globe.specs.Paper.{lengthPaper}
 use Rattle.numbers.specs.declared.Mark.{Mark}
 use Rattle.numbers.specs.declared.Mark.the-variants as M
@@ -26,7 +27,7 @@ use Rattle.route.specs.Line.{metre}
 use Rattle.route.specs.Route.{readingOf, bufferOf}
 use Rattle.route.specs.Paper.{readingPaper}
 use Rattle.route.specs.Words.{paper}
-use Rattle.writer.specs.RouteText.{routeText, mostTarget, targetRefusal, textRefusal}
+use Rattle.writer.specs.RouteText.{routeText, targetRefusal, textRefusal}
 use Rattle.writer.specs.Paper.{answer, left, targetOf, markOf}
 use Rattle.writer.specs.RouteTextLaws.{text-accepted, text-length, walk-back}
 

@@ -16,6 +16,7 @@ use Rattle.numbers.specs.declared.Kind.the-variants as K
 use Rattle.numbers.specs.Pieces.{LF, TAB}
 use Rattle.numbers.specs.Text.{bytes}
 use Rattle.numerals.specs.Numeral.{numeralOf}
+use Rattle.globe.specs.Met.{mostTarget}
 use Rattle.route.specs.declared.Target.{Target}
 use Rattle.route.specs.declared.Target.the-variants as T
 use Rattle.route.specs.Line.{metre}
@@ -54,9 +55,6 @@ unfoldable pub routeText : Mark → Target → List ℤ → List ℕ
 routeText mark target points = ended (headerText mark ∷ (targetLines mark target ++ pointLines mark points (count points)))
 
 -- ---- what refuses it
-
-abbrev pub mostTarget : ℕ
-mostTarget = 999_999_000
 
 -- "target not a whole number of metres or above 999,999,000 mm"
 unfoldable pub targetRefusal : Target → ℕ

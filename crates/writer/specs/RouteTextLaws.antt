@@ -27,6 +27,7 @@ use Rattle.numerals.specs.Numeral.{numeralOf}
 use Rattle.numerals.specs.OneWay.{fits}
 use Rattle.numerals.specs.OneWayLaws.{numeral-back, numeral-free, numeral-most}
 use Rattle.numbers.specs.Text.{bytes}
+use Rattle.globe.specs.Met.{mostTarget}
 use Rattle.route.specs.declared.Target.{Target}
 use Rattle.route.specs.declared.Target.the-variants as T
 use Rattle.route.specs.Line.{metre, Seen, fresh, lineOf, gapOf, targetOf, pointOf, thirdOf}
@@ -35,7 +36,7 @@ use Rattle.route.specs.Route as Route
 use Rattle.route.specs.Words.{headerText, without, Reads}
 use Rattle.route.specs.Words as Words
 use Rattle.route.specs.ReadsLaws.{text-walk}
-use Rattle.writer.specs.RouteText.{fieldOf, targetLines, gapBefore, pointLine, pointLines, ended, routeText, mostTarget, targetRefusal, textRefusal}
+use Rattle.writer.specs.RouteText.{fieldOf, targetLines, gapBefore, pointLine, pointLines, ended, routeText, targetRefusal, textRefusal}
 
 -- ---- what is not refused
 

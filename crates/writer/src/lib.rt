@@ -7,6 +7,7 @@ ghost use Rattle.writer.specs.RouteText.{routeText, targetRefusal, textR
 mod lines;
 mod sizes;
 
+use globe::MOST_TARGET;
 use numbers::Mark;
 use numerals::Writing;
 use points::buffer_refusal;
@@ -15,8 +16,6 @@ use refusals::TARGET;
 use refusals::first_of;
 use route::METRE;
 use route::Target;
-
-const MOST_TARGET: u64 = 999_999_000;
 
 // 0 where the target is accepted.
 fn target_refusal(target: Target) -> u32
