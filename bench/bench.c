@@ -48,8 +48,8 @@ typedef struct { char bytes[60001]; size_t length; } text;
 static text far_joined, far_parted, near_joined, near_parted, few_points, no_points;
 static int32_t senruhobi_buffer[NUMBERS], twin_buffer[NUMBERS];
 static double usual_buffer[NUMBERS];
-static uint8_t senruhobi_output[SENRUHOBI_MOST_BYTES], twin_output[SENRUHOBI_MOST_BYTES];
-static char usual_output[SENRUHOBI_MOST_BYTES];
+static uint8_t senruhobi_output[SENRUHOBI_MOST_WRITTEN], twin_output[SENRUHOBI_MOST_WRITTEN];
+static char usual_output[SENRUHOBI_MOST_WRITTEN + 1]; /* with a zero byte */
 
 /* The points of the joined routes, in ticks and in degrees. */
 static int32_t near_points[NUMBERS], far_points[NUMBERS];
@@ -331,7 +331,27 @@ MEET(10)
 MEET(500)
 MEET(1000)
 
-/* With a target, and a comma for a mark. */
+/* A text's size and its writing are asked for alike: with a target, and a comma for a mark. */
+#define SIZE_EXACT(way, name, points, numbers)                                 \
+    static uint64_t way##_size_##name(void)                                    \
+    {                                                                          \
+        senruhobi_written a = way##_route_size(points, numbers, 1, TARGET, 1); \
+        return a.refusal + a.bytes;                                            \
+    }
+
+#define SIZE(name, route, numbers)                                                  \
+    SIZE_EXACT(senruhobi, name, route##_points, numbers)                            \
+    SIZE_EXACT(twin, name, route##_points, numbers)                                 \
+    static uint64_t usual_size_##name(void)                                         \
+    {                                                                               \
+        usual_written a = usual_route_size(route##_degrees, numbers, 1, TARGET, 1); \
+        return (uint64_t)a.refused + a.bytes;                                       \
+    }
+
+SIZE(few, near, SENRUHOBI_NUMBERS * FEW_POINTS)
+SIZE(near, near, NUMBERS)
+SIZE(far, far, NUMBERS)
+
 #define WRITE_EXACT(way, name, points, numbers)                                                                       \
     static uint64_t way##_write_##name(void)                                                                          \
     {                                                                                                                 \
@@ -400,7 +420,13 @@ typedef struct {
                   [IDLE_DOOR] = senruhobi_##door##_none, [IDLE_TWIN] = twin_##door##_none}                               \
     }
 
-/* Writing makes no table, so no call is idle. */
+/* Neither a size nor a writing makes a table, so no call is idle. */
+#define SIZING(title, name_)                                                                                   \
+    {                                                                                                          \
+        .name = "route_size, " title, .calls = 1,                                                              \
+        .round = {[DOOR] = senruhobi_size_##name_, [TWIN] = twin_size_##name_, [USUALLY] = usual_size_##name_} \
+    }
+
 #define WRITING(title, name_)                                                                                      \
     {                                                                                                              \
         .name = "write_route, " title, .calls = 1,                                                                 \
@@ -410,8 +436,8 @@ typedef struct {
 
 enum {
     LONG_SINE, LONG_SINE_HALF, SHORT_SINE, CYLINDRICAL, SINUSOIDAL, CYLINDRICAL_BACK, SINUSOIDAL_BACK, LEG, COURSE, ROOT_STEPS, PEN_STEP,
-    MEASURE_NEAR, MEASURE_FAR, MET_10, MET_500, MET_1000, READ_FEW, NEAR_JOINED, NEAR_PARTED, FAR_JOINED, FAR_PARTED, WRITE_FEW, WRITE_NEAR,
-    WRITE_FAR, JOBS
+    MEASURE_NEAR, MEASURE_FAR, MET_10, MET_500, MET_1000, READ_FEW, NEAR_JOINED, NEAR_PARTED, FAR_JOINED, FAR_PARTED, SIZE_FEW, SIZE_NEAR,
+    SIZE_FAR, WRITE_FEW, WRITE_NEAR, WRITE_FAR, JOBS
 };
 
 static job jobs[JOBS] = {
@@ -436,6 +462,9 @@ static job jobs[JOBS] = {
     [NEAR_PARTED] = READING("near, parted", near_parted),
     [FAR_JOINED] = READING("far, joined", far_joined),
     [FAR_PARTED] = READING("far, parted", far_parted),
+    [SIZE_FEW] = SIZING("few points", few),
+    [SIZE_NEAR] = SIZING("near", near),
+    [SIZE_FAR] = SIZING("far", far),
     [WRITE_FEW] = WRITING("few points", few),
     [WRITE_NEAR] = WRITING("near", near),
     [WRITE_FAR] = WRITING("far", far),
@@ -529,10 +558,10 @@ static void print_rows(void)
 {
     printf("%-25s %9s %8s %9s %9s %9s %10s %10s %11s\n", "ns a call", "door", "table", "rest", "twin", "usual", "door/twin", "rest/twin",
            "door/usual");
-    print_jobs(0, WRITE_FEW);
+    print_jobs(0, SIZE_FEW);
     print_leg("a leg inside it, near", &jobs[NEAR_JOINED], &jobs[NEAR_PARTED]);
     print_leg("a leg inside it, far", &jobs[FAR_JOINED], &jobs[FAR_PARTED]);
-    print_jobs(WRITE_FEW, JOBS);
+    print_jobs(SIZE_FEW, JOBS);
     print_point("a point inside it, near", &jobs[WRITE_NEAR]);
     print_point("a point inside it, far", &jobs[WRITE_FAR]);
     printf("\n"
@@ -543,6 +572,7 @@ static void print_rows(void)
            "met     once so many of the near points are looked at, out of %d\n"
            "joined  a leg into each point but the first; parted: `g` between all points, and no leg\n"
            "roots   of numbers as great as H is in near legs and in far ones, by turns\n"
+           "size    of the text that write_route writes of the same points, without writing it\n"
            "a leg   (joined - parted) / %d, plus the cost of the `g` line that stands in its place in the parted text\n"
            "a point a call of write_route / %d, with the lines before the first point\n",
            FEW_POINTS, POINTS, POINTS, POINTS, POINTS - 1, POINTS);

@@ -631,20 +631,29 @@ static void write_route(uint8_t *to, const int32_t *points, size_t numbers, uint
     }
 }
 
-/* The text is counted first: nothing is written to an output without room for all of it. */
-senruhobi_written twin_write_route(const int32_t *points, size_t numbers, uint32_t has_target, uint64_t target, uint32_t comma,
-                                   uint8_t *out, size_t bytes, size_t place)
+/* The bytes are as many under either mark. */
+senruhobi_written twin_route_size(const int32_t *points, size_t numbers, uint32_t has_target, uint64_t target, uint32_t comma)
 {
+    (void)comma;
     uint32_t refusal = buffer_refusal(points, numbers);
     if (!refusal && has_target && (target % METRE || target > MOST_TARGET))
         refusal = TARGET;
     if (refusal)
         return (senruhobi_written){.refusal = refusal};
-    size_t length = route_bytes(points, numbers, has_target, target);
-    if (place > bytes || bytes - place < length)
+    return (senruhobi_written){.bytes = route_bytes(points, numbers, has_target, target)};
+}
+
+/* The text is counted first: nothing is written to an output without room for all of it. */
+senruhobi_written twin_write_route(const int32_t *points, size_t numbers, uint32_t has_target, uint64_t target, uint32_t comma,
+                                   uint8_t *out, size_t bytes, size_t place)
+{
+    senruhobi_written counted = twin_route_size(points, numbers, has_target, target, comma);
+    if (counted.refusal)
+        return counted;
+    if (place > bytes || bytes - place < counted.bytes)
         return (senruhobi_written){.refusal = OUTPUT};
     write_route(out + place, points, numbers, has_target, target, comma);
-    return (senruhobi_written){.bytes = length};
+    return counted;
 }
 
 /* The pen */

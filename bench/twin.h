@@ -16,6 +16,7 @@ senruhobi_working twin_root_steps(uint64_t number);
 senruhobi_length twin_measure(const int32_t *points, size_t numbers);
 senruhobi_met twin_target_met(const int32_t *points, size_t numbers, uint64_t target);
 senruhobi_reading twin_read_route(const uint8_t *text, size_t bytes, int32_t *buffer, size_t numbers);
+senruhobi_written twin_route_size(const int32_t *points, size_t numbers, uint32_t has_target, uint64_t target, uint32_t comma);
 senruhobi_written twin_write_route(const int32_t *points, size_t numbers, uint32_t has_target, uint64_t target, uint32_t comma,
                                    uint8_t *out, size_t bytes, size_t place);
 senruhobi_step twin_pen_step(uint32_t pen, double left, double right, double bottom, double top,

@@ -227,26 +227,45 @@ static void write_number(char *to, size_t room, int decimals, double value, int 
         *mark = ',';
 }
 
-/* Line by line, each into the room that is left, with a zero byte at the end. */
-usual_written usual_write_route(const double *points, size_t numbers, int has_target, double target, int comma, char *out, size_t bytes)
+static size_t least(size_t a, size_t b)
+{
+    return a < b ? a : b;
+}
+
+/* Line by line, each into the room that is left, with a zero byte at the end. As snprintf does, it counts also what has no room. */
+static usual_written print_route(const double *points, size_t numbers, int has_target, double target, int comma, char *out, size_t bytes)
 {
     const usual_written refused = {.refused = 1};
     char first[32], second[32];
     if (numbers % SENRUHOBI_NUMBERS || (has_target && !is_target(target)))
         return refused;
     size_t at = (size_t)snprintf(out, bytes, "route\t%s\n", comma ? "comma" : "point");
-    if (has_target && at < bytes) {
+    if (has_target) {
+        size_t used = least(at, bytes);
         write_number(first, sizeof first, 3, target / 1e6, comma);
-        at += (size_t)snprintf(out + at, bytes - at, "t\t%s\n", first);
+        at += (size_t)snprintf(out + used, bytes - used, "t\t%s\n", first);
     }
-    for (size_t i = 0; i < numbers && at < bytes; i += SENRUHOBI_NUMBERS) {
+    for (size_t i = 0; i < numbers; i += SENRUHOBI_NUMBERS) {
+        size_t used = least(at, bytes);
         if (!is_point(points[i], points[i + 1]))
             return refused;
         write_number(first, sizeof first, 7, points[i], comma);
         write_number(second, sizeof second, 7, points[i + 1], comma);
-        at += (size_t)snprintf(out + at, bytes - at, "%sp\t%s\t%s\n", i && points[i + 2] != 0 ? "g\n" : "", first, second);
+        at += (size_t)snprintf(out + used, bytes - used, "%sp\t%s\t%s\n", i && points[i + 2] != 0 ? "g\n" : "", first, second);
     }
-    return at < bytes ? (usual_written){.bytes = at} : refused;
+    return (usual_written){.bytes = at};
+}
+
+usual_written usual_route_size(const double *points, size_t numbers, int has_target, double target, int comma)
+{
+    char none; /* not a null pointer, since places in it are counted on */
+    return print_route(points, numbers, has_target, target, comma, &none, 0);
+}
+
+usual_written usual_write_route(const double *points, size_t numbers, int has_target, double target, int comma, char *out, size_t bytes)
+{
+    usual_written w = print_route(points, numbers, has_target, target, comma, out, bytes);
+    return w.bytes < bytes ? w : (usual_written){.refused = 1};
 }
 
 usual_step usual_pen_step(int pen, double left, double right, double bottom, double top,

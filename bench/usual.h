@@ -23,6 +23,7 @@ senruhobi_working usual_root_steps(uint64_t number);
 usual_number usual_measure(const double *points, size_t numbers);
 usual_met usual_target_met(const double *points, size_t numbers, double target);
 usual_reading usual_read_route(const char *text, double *buffer, size_t numbers);
+usual_written usual_route_size(const double *points, size_t numbers, int has_target, double target, int comma);
 usual_written usual_write_route(const double *points, size_t numbers, int has_target, double target, int comma, char *out, size_t bytes);
 usual_step usual_pen_step(int pen, double left, double right, double bottom, double top,
                           double divisor, double meridian, double latitude, double longitude, int third);

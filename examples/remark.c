@@ -4,7 +4,7 @@
 #include <senruhobi.h>
 
 static uint8_t text[SENRUHOBI_MOST_BYTES + 1]; /* a byte more, so that a text that is too long is seen to be so */
-static uint8_t out[SENRUHOBI_MOST_BYTES];
+static uint8_t out[SENRUHOBI_MOST_WRITTEN];
 
 int main(void)
 {

@@ -60,16 +60,17 @@ typedef enum {
     SENRUHOBI_REFUSED_DIVISOR = 13, /* divisor outside 1 to 1,000,000 */
     SENRUHOBI_REFUSED_MERIDIAN = 14, /* central meridian out of range */
     SENRUHOBI_REFUSED_OUTPUT = 15, /* the output from the place on is too short for the text; a place past its end leaves no room */
-    SENRUHOBI_REFUSED_TARGET = 16, /* a target above 999,999,000 mm; in writing also one that is not a whole number of metres */
+    SENRUHOBI_REFUSED_TARGET = 16, /* a target above 999,999,000 mm; for a route's text also one that is not a whole number of metres */
     SENRUHOBI_REFUSED_BUFFER = 17, /* a point buffer that is no multiple of three, a third number other than 0 or 1, or a first one of 0 */
     SENRUHOBI_REFUSED_COURSE = 18 /* no course: the rule's two numbers are both zero, as between equal points, opposite ones, and some that are nearly so */
 } senruhobi_refusal;
 
 enum {
-    SENRUHOBI_MOST_BYTES = 60000, /* of a route's text */
+    SENRUHOBI_MOST_BYTES = 60000, /* of a route's text that is read */
     SENRUHOBI_NUMBERS = 3, /* of a point in a buffer: latitude, longitude, and 1 where the pen was up before it, else 0 */
     SENRUHOBI_MOST_POINTS = 1000, /* of a route */
     SENRUHOBI_MOST_NUMBERS = SENRUHOBI_NUMBERS * SENRUHOBI_MOST_POINTS, /* room for every route */
+    SENRUHOBI_MOST_WRITTEN = 29020, /* bytes of a route's text that is written: room for every route. n points need at most 20 + 29n, none up to 22 */
     SENRUHOBI_MOST_PAIRS = 10 /* of decimal digits: no uint64_t has more than 20 digits */
 };
 
@@ -130,8 +131,13 @@ senruhobi_met senruhobi_target_met(const int32_t *points, size_t numbers, uint64
  * `g`, else 0; its other numbers stay as they were. Refusals: 1 to 10, with the line. */
 senruhobi_reading senruhobi_read_route(const uint8_t *text, size_t bytes, int32_t *buffer, size_t numbers);
 
+/* How many bytes senruhobi_write_route would write of the same points, target and mark, given as there, without writing them. What is refused
+ * here is refused there by the same number, whatever the output. Otherwise a writing is refused by 15 exactly where the output from the place
+ * on is shorter than this, and else writes exactly so many bytes. Refusals: 17, 9, then 6 and 7 point by point, 16. */
+senruhobi_written senruhobi_route_size(const int32_t *points, size_t numbers, uint32_t has_target, uint64_t target, uint32_t comma);
+
 /* Writes a route's text into `out`, which has `bytes` bytes, from `place` onward, and answers how many bytes the text has; all others stay as
- * they were. SENRUHOBI_MOST_BYTES from the place on are room for every route. `numbers` is the whole point buffer's. In `has_target` 0 means
+ * they were. SENRUHOBI_MOST_WRITTEN from the place on are room for every route. `numbers` is the whole point buffer's. In `has_target` 0 means
  * no target, and the number beside it is not looked at; in `comma` 0 means the point, any other number the comma. Each number is written one
  * way, the shortest, and reading the text gives back points, target and length. Refusals: 17, 9, then 6 and 7 point by point, 16, 15. */
 senruhobi_written senruhobi_write_route(const int32_t *points, size_t numbers, uint32_t has_target, uint64_t target, uint32_t comma,

@@ -5,8 +5,8 @@ import math
 
 import model
 import texts
-from figures import (DOWN, GREATEST, GREATEST_64, HERE, INF, KILOMETRES, LATITUDE, LEAST, LEAST_64, LONGITUDE, NO_LATITUDES, NO_LONGITUDES,
-                     NO_TARGETS, NO_THIRDS, PENS, THIRD, X, Y, YES, above, below, changed, laid, north, route, step)
+from figures import (DOWN, GREATEST, GREATEST_64, HERE, INF, KILOMETRES, LATITUDE, LEAST, LEAST_64, LONGEST, LONGITUDE, NO_LATITUDES,
+                     NO_LONGITUDES, NO_TARGETS, NO_THIRDS, PENS, THIRD, X, Y, YES, above, below, changed, laid, north, route, step)
 from model import DEGREE, HALF_TURN, NUMBERS, QUARTER, QUARTER_IN_HALVES, STEP, STEP_IN_HALVES, turned
 
 LATITUDES = [LEAST, -QUARTER - 1, -QUARTER, -QUARTER + 1, -600_000_000, -1, 0, 1, STEP, QUARTER - 1, QUARTER, QUARTER + 1, GREATEST]
@@ -174,6 +174,38 @@ def writings():
     text = model.route_text(model.points_of(two), 0, comma=1)
     for room, place in itertools.product(range(len(text) + 3), repeat=2):
         yield 'write_route', two, 1, 0, 1, room, place
+
+
+def number_with(digits, decimals, most):
+    """A number with so many digits before the mark and so many decimals, in units of the last decimal that it may have."""
+    return 10**(most + digits - 1) + 10**(most - decimals)
+
+
+def sized(route):
+    """The question how long a route's text is, and its writings into as much room and a byte less, or into none and much where it is refused, at the
+    output's beginning and behind other bytes."""
+    yield ('route_size', *route)
+    refusal, need = model.size_door(*route)
+    rooms = (0, output_for(len(route[0]) // NUMBERS)) if refusal else (need - 1, need)
+    for room, place in itertools.product(rooms, (0, 11)):
+        yield ('write_route', *route, place + room, place)
+
+
+def sizes():
+    """Points and targets with every count of digits and decimals, and with a minus or none; the longest points and the shortest, none, few, as many as
+    there may be and more; and what refuses a buffer or a target."""
+    angles = [sign * number_with(digits, decimals, 7) for digits in (1, 2, 3) for decimals in range(8) for sign in (1, -1)]
+    two = laid([LONGEST[:THIRD], (0, 0)], lifted=[1])
+    buffers = [*((angle, 0, 1) for angle in angles if model.latitude_in_range(angle)), *((0, angle, 1) for angle in angles),
+               *(laid(count * [point], lifted) for count in (0, 1, 2, 999, 1_000, 1_001) for point in (LONGEST[:THIRD], (0, 0))
+                 for lifted in ((), range(count))),
+               two[:-1], (*two, 0), changed(two, (0, THIRD, 0)), *(changed(two, (1, THIRD, third)) for third in NO_THIRDS),
+               *(changed(two, (1, LATITUDE, latitude)) for latitude in NO_LATITUDES),
+               *(changed(two, (0, LONGITUDE, longitude)) for longitude in NO_LONGITUDES)]
+    others = [(0, 0, 0), (0, NO_TARGETS[-1], 1), (1, 0, 0), (1, model.MOST_TARGET, 1), (1, NO_TARGETS[0], 0), (1, NO_TARGETS[-1], 1)]
+    routes = [(numbers, *more) for numbers in buffers for more in others]
+    routes += [((), 1, model.METRE * number_with(digits, decimals, 3), comma) for digits in (1, 2, 3) for decimals in range(4) for comma in (0, 1)]
+    return (call for route in routes for call in sized(route))
 
 
 def every_byte():
@@ -390,20 +422,34 @@ def random_target(some):
                         model.MOST_TARGET + model.METRE, some.choice(NO_TARGETS), some.randrange(2**64)])
 
 
-def random_targets(some, count):
-    """Three targets for each of so many point buffers, most of them accepted: at the length of a beginning, right beside it, and any."""
+def better_buffers(some, count):
+    """So many point buffers, most of them accepted."""
     for numbers in random_buffers(some, count):
-        numbers = numbers if some.random() < 1 / 3 else good_buffer(some, some.choice([1, 2, 3, 5, 8, 13]))
+        yield numbers if some.random() < 1 / 3 else good_buffer(some, some.choice([1, 2, 3, 5, 8, 13]))
+
+
+def random_targets(some, count):
+    """Three targets for each of so many point buffers: at the length of a beginning, right beside it, and any."""
+    for numbers in better_buffers(some, count):
         length = 0 if model.bad_buffer(numbers) else some.choice(model.lengths_of(model.points_of(numbers)))
         for target in (length, abs(length + some.choice([-1, 1])), random_target(some)):
             yield 'target_met', numbers, target
 
 
+def random_route(some, numbers):
+    """A point buffer with a target, if any, and a mark."""
+    return numbers, random_flag(some), random_target(some), random_flag(some)
+
+
+def random_sizes(some, count):
+    return (call for numbers in better_buffers(some, count) for call in sized(random_route(some, numbers)))
+
+
 def random_writings(some, count):
     """Writings of so many point buffers: the accepted ones into too little room, as much as they need, and too much; and from past the end."""
     for numbers in random_buffers(some, count):
-        route, most = (numbers, random_flag(some), random_target(some), random_flag(some)), output_for(len(numbers) // NUMBERS)
-        refusal, need = model.write_door(*route, bytearray(most), 0)
+        route, most = random_route(some, numbers), output_for(len(numbers) // NUMBERS)
+        refusal, need = model.size_door(*route)
         rooms = {some.choice([0, most])} if refusal else {some.randrange(need), need - 1, need, need + some.randint(1, 9)}
         for room in sorted(rooms):
             place = some.choice([0, some.randrange(99)])

@@ -3,12 +3,12 @@
 
    "read_route ROOM :TEXT" lends a buffer of ROOM numbers; TEXT is in hex digits. Behind the fields of the answer stand 1, or 0 where
    anything but the buffer was changed, and then all the numbers of the buffer. "measure COUNT NUMBER .." lends COUNT numbers; behind the
-   fields stands 1, or 0 where a number was changed, of these or around them. "target_met COUNT NUMBER .. TARGET" does the same.
-   "write_route COUNT NUMBER .. HAS_TARGET TARGET COMMA ROOM FROM" lends COUNT numbers and an output of ROOM bytes, to be written to from
-   FROM on. Behind the fields stand 1, or 0 where anything but the output was changed, and then :OUTPUT in hex digits. A text or an output of
-   no bytes and a buffer of no numbers are NULL.
+   fields stands 1, or 0 where a number was changed, of these or around them. "target_met COUNT NUMBER .. TARGET" and "route_size COUNT
+   NUMBER .. HAS_TARGET TARGET COMMA" do the same. "write_route COUNT NUMBER .. HAS_TARGET TARGET COMMA ROOM FROM" lends COUNT numbers and an
+   output of ROOM bytes, to be written to from FROM on. Behind the fields stand 1, or 0 where anything but the output was changed, and then
+   :OUTPUT in hex digits. A text or an output of no bytes and a buffer of no numbers are NULL.
 
-   Before these four may stand "at PLACE": where in their memory text, buffer and output lie, counted in bytes and in numbers. At 0 the first
+   Before these five may stand "at PLACE": where in their memory text, buffer and output lie, counted in bytes and in numbers. At 0 the first
    byte or number is the first of the memory, at 1 the second; at -1 the last one is the last of the memory, at -2 the last but one. What lies
    before and behind the memory may not be read. A text, a buffer or an output of none is then not NULL: it points to its place.
 
@@ -211,6 +211,17 @@ static void target_met(size_t room, size_t count, long place)
     printf(" %d", unchanged(room));
 }
 
+static void route_size(size_t room, size_t count, long place)
+{
+    uint32_t has_target, comma;
+    uint64_t target;
+    lend(room, place);
+    if (scanf("%u%lu%u", &has_target, &target, &comma) != 3)
+        exit(1);
+    say_written(senruhobi_route_size(pointer(lent, room, place), count ? count : room, has_target, target, comma));
+    printf(" %d", unchanged(room));
+}
+
 static void write_route(size_t many, size_t count, long place)
 {
     uint32_t has_target, comma;
@@ -286,6 +297,8 @@ int main(void)
             measure(room, count, place);
         else if (is("target_met") && scanf("%lu", &room) == 1)
             target_met(room, count, place);
+        else if (is("route_size") && scanf("%lu", &room) == 1)
+            route_size(room, count, place);
         else if (is("write_route") && scanf("%lu", &room) == 1)
             write_route(room, count, place);
         else if (is("read_route") && scanf("%lu%ms", &room, &text) == 2) {

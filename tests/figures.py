@@ -457,7 +457,7 @@ KILOMETRES = {
     100_010_000: '100.01', 120_000_000: '120', 987_600_000: '987.6', 999_000_000: '999', 999_999_000: '999.999',
 }
 NO_TARGETS = [1, 999, 1_001, 999_998_999, 999_999_001, 999_999_999, 1_000_000_000, 2**32, 1_000 * 2**32, 2**63, 2**64 - 616, 2**64 - 1]
-LONGEST_LINE = 'p -89.9999999 -179.9999999'
+LONGEST, LONGEST_LINE = (-899_999_999, -1_799_999_999, 1), 'p -89.9999999 -179.9999999'
 # the numbers of each route, its target if any, and its lines under the point
 WRITTEN = [
     ((), None, []), *(((), target, [f't {kilometres}']) for target, kilometres in KILOMETRES.items()),
@@ -469,13 +469,25 @@ WRITTEN = [
     ((900_000_000, -1_800_000_000, 1, -1, 50_000_000, 1), 1_000_000, ['t 1', 'p 90 -180', 'g', 'p -0.0000001 5']),
     # the most points, in the shortest lines and in the longest
     ((0, 0, 1, *999 * (0, 0, 0)), None, THOUSAND),
-    (1000 * (-899_999_999, -1_799_999_999, 1), 999_999_000, ['t 999.999', LONGEST_LINE, *999 * ['g', LONGEST_LINE]]),
+    (1000 * LONGEST, 999_999_000, ['t 999.999', LONGEST_LINE, *999 * ['g', LONGEST_LINE]]),
 ]
 
 
+def marked():
+    """These routes with either mark, and the texts."""
+    for (numbers, target, lines), (comma, mark, name) in itertools.product(WRITTEN, ((0, '.', 'point'), (1, ',', 'comma'))):
+        yield numbers, target, comma, route(name, *(words.replace('.', mark) for words in lines))
+
+
+def sizing(numbers, target, comma):
+    """A question how long a text is. Where there is no target, a number that would be refused stands for it."""
+    return ('route_size', numbers, *((0, NO_TARGETS[-1]) if target is None else (1, target)), comma)
+
+
 def writing(numbers, target, comma, room, place):
-    """A call of the writer. Where there is no target, a number that would be refused stands for it."""
-    return ('write_route', numbers, *((0, NO_TARGETS[-1]) if target is None else (1, target)), comma, room, place)
+    """A call of the writer."""
+    _, *asked = sizing(numbers, target, comma)
+    return ('write_route', *asked, room, place)
 
 
 def text_written(text, room, place):
@@ -491,8 +503,7 @@ def nothing_written(number, room):
 
 def writings():
     """The routes with either mark, into outputs of several sizes and from several places on; then what else decides, and the refusals."""
-    for (numbers, target, lines), (comma, mark, name) in itertools.product(WRITTEN, ((0, '.', 'point'), (1, ',', 'comma'))):
-        text = route(name, *(words.replace('.', mark) for words in lines))
+    for numbers, target, comma, text in marked():
         size = len(text)
         for room, place in ((size, 0), (size + 1, 0), (size + 7, 7), (size + 70, 64)):
             yield writing(numbers, target, comma, room, place), text_written(text, room, place)
@@ -518,6 +529,44 @@ def writings():
 
 
 WRITINGS = list(writings())
+# How much room to lend. The numbers of a route, its target if any, and how many bytes its text has with either mark.
+SIZED = [
+    # line 1 has 12, the line of a target 4 to 10
+    ((), None, 12), ((), 0, 16), ((), 2_500_000, 18), ((), 999_999_000, 22),
+    # the shortest line of a point has 6, the longest 27
+    ((0, 0, 1), None, 18), ((0, 0, 1), 0, 22), (LONGEST, None, 39),
+    # the mark with seven decimals has 8, with one 2, and a minus has 1; a second and a third digit before the mark have 1 each
+    ((1, 0, 1), None, 26), ((0, 1, 1), None, 26), ((-1, 0, 1), None, 27), ((0, -1, 1), None, 27), ((-1_000_000, 0, 1), None, 21),
+    ((90_000_000, 100_000_000, 1), None, 19), ((-900_000_000, -1_000_000_000, 1), None, 23),
+    # a `g` has 2, and never stands before the first point
+    ((0, 0, 1, 0, 0, 0), None, 24), ((0, 0, 1, 0, 0, 1), None, 26), ((0, 0, 1, 0, 0, 1, 0, 0, 0), None, 32), ((0, 0, 1, 0, 0, 1, 0, 0, 1), None, 34),
+    # the most points in the shortest lines
+    ((0, 0, 1, *999 * (0, 0, 0)), None, 6_012), ((0, 0, 1, *999 * (0, 0, 0)), 0, 6_016), (1000 * (0, 0, 1), None, 8_010),
+    # "n points need at most 22 + 29n bytes": the longest need two less, as no `g` stands before the first
+    (LONGEST, 999_999_000, 49), (2 * LONGEST, 999_999_000, 78), (3 * LONGEST, 999_999_000, 107), (10 * LONGEST, 999_999_000, 310),
+    (999 * LONGEST, 999_999_000, 28_991), (1000 * LONGEST, 999_999_000, 29_020), (1000 * LONGEST, None, 29_010),
+]
+
+
+def sizes():
+    """The questions how long these texts are, and those that were written by hand; then what else decides, and the refusals."""
+    for (numbers, target, size), comma in itertools.product(SIZED, (0, 1)):
+        yield sizing(numbers, target, comma), (0, size)
+    yield from ((sizing(*asked), (0, len(text))) for *asked, text in marked())
+    # every number but 0 says yes; without a target its number is not looked at
+    for yes in YES:
+        yield from ((('route_size', (), 0, 0, yes), (0, 12)), (('route_size', (), yes, 0, 0), (0, 16)))
+    yield from ((('route_size', (), 0, target, 0), (0, 12)) for target in (0, 1_000, *NO_TARGETS))
+    # "with R-1's refusals but 15", and in their order
+    yield from ((('route_size', (), yes, target, 0), (16, 0)) for target, yes in itertools.product(NO_TARGETS, YES))
+    for (numbers, number, _), target in itertools.product(buffers(), (None, 0, 1, 1_000_000_000)):
+        refusal = number or (16 if target in NO_TARGETS else 0)
+        if refusal:
+            yield sizing(numbers, target, 0), (refusal, 0)
+
+
+# behind the fields stands 1, as nothing changes
+SIZES = [(call, (*answer, 1)) for call, answer in sizes()]
 # routes in other ways, and written back: "Leading zeros and a minus before zero are allowed."
 OTHER_WAYS = [
     (route('comma', 't 010,500', 'p -0 -000,0000000', 'p 00,5 -012,3400000', 'g', 'p -00,0000001 7,10'),
@@ -597,4 +646,4 @@ def plans():
 # behind the fields stands 1, as nothing changes
 MET = [(('target_met', numbers, target), (*answer, 1)) for numbers, target, answer in plans()]
 FIGURES = [*SINES.items(), *HALF_SINES.items(), *SHEETS.items(), *BACK.items(), *BOTH_WAYS.items(), *DIRECTIONS.items(), *WORKINGS.items(), *STEPS,
-           *orders(), *WRITINGS, *MEASURES, *MET, *readings()]
+           *orders(), *WRITINGS, *SIZES, *MEASURES, *MET, *readings()]

@@ -5,7 +5,7 @@ Each rule is written from the document's sentence, which stands above it in quot
 the compiled code to a second reading of the same page. What refuses a point buffer, and how a route is written, is quoted from the first of
 the later requests, which angles have a sine from the second, the course from the third, and half ticks from the fourth. The fifth has the
 root found "by the school method": its steps are quoted from the page that shows them, docs/SCHOOL_ROOT.md. The sixth asks whether a target is
-met. Nothing here is quick.
+met, and the seventh how much room a text needs. Nothing here is quick.
 """
 import itertools
 import math
@@ -606,6 +606,20 @@ def bad_target(target):
     return 16 if target is not None and (target % METRE != 0 or target > MOST_TARGET) else 0
 
 
+def text_of(numbers, has_target, target, comma):
+    """What refuses a route's text, 0 where nothing does, and the text."""
+    target = target if has_target else None
+    # "order 17, 9, 6 and 7 by point, 16"
+    refusal = bad_buffer(numbers) or bad_target(target)
+    return refusal, b'' if refusal else route_text(points_of(numbers), target, comma)
+
+
+def size_door(numbers, has_target, target, comma):
+    # "give the exact length without writing, with R-1's refusals but 15"
+    refusal, text = text_of(numbers, has_target, target, comma)
+    return refusal, len(text)
+
+
 def bad_room(text, output, place):
     # "15 the output from that place on is too short (a place past its end leaves none)"
     return 15 if len(text) > max(len(output) - place, 0) else 0
@@ -613,12 +627,9 @@ def bad_room(text, output, place):
 
 def write_door(numbers, has_target, target, comma, output, place):
     """The writer: (refusal, bytes), and the text in the lent output."""
-    target = target if has_target else None
-    # "order 17, 9, 6 and 7 by point, 16, 15"
-    refusal = bad_buffer(numbers) or bad_target(target)
-    if not refusal:
-        text = route_text(points_of(numbers), target, comma)
-        refusal = bad_room(text, output, place)
+    refusal, text = text_of(numbers, has_target, target, comma)
+    # "order .. 16, 15"
+    refusal = refusal or bad_room(text, output, place)
     if refusal:
         return refusal, 0
     # "The bytes go into the lent output from a given place onward, nothing before or after them changing; the answer is their number."
@@ -649,6 +660,7 @@ DOORS = {
     'measure': measure_door,
     'target_met': met_door,
     'read_route': read,
+    'route_size': size_door,
     'write_route': write_door,
     'pen_step': pen_door,
 }

@@ -45,6 +45,7 @@ int main(void)
     SAY(read_route, (const uint8_t *)text, bytes, points, SENRUHOBI_MOST_NUMBERS);
     SAY(measure, points, SENRUHOBI_MOST_NUMBERS);
     SAY(target_met, points, SENRUHOBI_MOST_NUMBERS, 999999000);
+    SAY(route_size, points, SENRUHOBI_MOST_NUMBERS, 1, 123456000, 1);
     SAY(write_route, points, SENRUHOBI_MOST_NUMBERS, 1, 123456000, 1, (uint8_t *)text, sizeof text, 0);
     SAY(pen_step, 0, -1e12, 1e12, -1e12, 1e12, 1, 0, 1, 2, 0);
     return 0;

@@ -50,7 +50,7 @@ def figures(accuracy, bench):
     courses = accuracy[accuracy.rindex('| a leg of about |'):]  # the second table
     short, longer = (row(courses, f'{leg} |')[0] for leg in ('1 m', '1 km'))
     # the mean of those that make a table of sines for one answer
-    calls = [row(bench, door)[0] for door in model.DOORS if door not in ('measure', 'target_met', 'read_route', 'write_route', 'root_steps')]
+    calls = [row(bench, door)[0] for door in model.DOORS if door not in ('measure', 'target_met', 'read_route', 'route_size', 'write_route', 'root_steps')]
     return [f'{math.ceil(near)} mm in legs of up to 100 km',
             f'{pole / 1e3:.0f} m in a leg of 1 km close to a pole',
             f'{antipode / 1e6:.2f} km in one that leads nearly to the other side',
@@ -60,6 +60,7 @@ def figures(accuracy, bench):
             f'take some {row(bench, "root_steps")[0]:.0f} nanoseconds',
             f'a route of 1,000 points takes some {row(bench, "read_route, near, joined")[0] / 1e6:.1f} milliseconds',
             f'writing it back, which needs no table, some {row(bench, "write_route, near")[0] / 1e6:.2f}, ',
+            f'asking for its size alone some {row(bench, "route_size, near")[0] / 1e6:.2f}, ',
             f'point by point, some {row(bench, "pen_step")[0] / 1e3:.1f} milliseconds',
             f'the first 10 of its points meet takes some {row(bench, "target_met, 10 points")[0] / 1e3:.0f} microseconds']
 

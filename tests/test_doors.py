@@ -1,6 +1,6 @@
 """The doors for C, called through the driver doors.c: on the documents' figures, at the limits of every argument, over every row of the
 table, with texts, buffers and outputs wherever they may lie, and on random calls; and what was written is read again, the steps of a
-root are added up, and the beginnings of a buffer are measured.
+root are added up, the beginnings of a buffer are measured, and a route is written into as much room as it needs.
 
 Answers are compared as lines, which have every field and every number or byte of what was lent. What the documents say holds the doors and
 the model; to any other call the doors have to answer what the model answers.
@@ -11,6 +11,7 @@ import itertools
 import math
 import pathlib
 import random
+import re
 import tempfile
 import unittest
 from unittest import mock
@@ -19,7 +20,8 @@ import calls
 import doors
 import model
 import texts
-from figures import ACCEPTED_TEXTS, DOWN, FIGURES, MEASURES, OTHER_WAYS, PLANS, REFUSED_TEXTS, THIRD, UP, WRITINGS, route
+from figures import (ACCEPTED_TEXTS, DOWN, FIGURES, LONGEST, MEASURES, OTHER_WAYS, PLANS, REFUSED_TEXTS, SIZED, THIRD, UP, WRITINGS, route,
+                     sizing)
 from model import ENTRIES, HALF_TURN, LEG_UNIT, NUMBERS, QUARTER, QUARTER_IN_HALVES, STEP, STEP_IN_HALVES
 from test_routes import COUNT, ROUTES, SEED
 
@@ -29,7 +31,8 @@ FITTING = [call for call, (refusal, size, *_) in WRITINGS if not refusal and cal
 REFUSALS = {
     'long_sine': {0, 6}, 'short_sine': {0, 6}, 'long_sine_half': {0, 6}, 'cylindrical': {0, 6, 7, 14}, 'sinusoidal': {0, 6, 7, 14},
     'cylindrical_back': {0, 11, 14}, 'sinusoidal_back': {0, 11, 14}, 'leg': {0, 6, 7}, 'course': {0, 6, 7, 18}, 'measure': {0, 6, 7, 9, 17},
-    'target_met': {0, 6, 7, 9, 16, 17}, 'read_route': set(range(11)), 'write_route': {0, 6, 7, 9, 15, 16, 17}, 'pen_step': {0, 6, 7, 12, 13, 14},
+    'target_met': {0, 6, 7, 9, 16, 17}, 'read_route': set(range(11)), 'route_size': {0, 6, 7, 9, 16, 17},
+    'write_route': {0, 6, 7, 9, 15, 16, 17}, 'pen_step': {0, 6, 7, 12, 13, 14},
 }
 NEVER_REFUSED = {'root_steps'}
 
@@ -41,6 +44,7 @@ IN_QUARTER, OFFSET_COSINE = model.in_quarter, model.offset_cosine
 HALF_DIFFERENCES, HALF_DOOR, LEG_NUMBER, LONG_SINE_HALF = model.half_differences, model.half_door, model.leg_number, model.long_sine_half
 DIGIT_OF, PAIRS_OF, ROOT_DOOR, ROOT_STEPS = model.digit_of, model.pairs_of, model.root_door, model.root_steps
 LENGTHS_OF, MET_DOOR, TARGET_MET = model.lengths_of, model.met_door, model.target_met
+SIZE_DOOR, TEXT_OF = model.size_door, model.text_of
 
 
 def rounded_sinusoidal(latitude, longitude, meridian):
@@ -227,14 +231,48 @@ def late_target(numbers, has_target, target, *more):
     return answer if answer[0] else WRITE_DOOR(numbers, has_target, target, *more)
 
 
-def early_target(numbers, has_target, target, *more):
+def early_target(door):
     """16 before what refuses the buffer."""
-    return (16, 0) if has_target and model.bad_target(target) else WRITE_DOOR(numbers, has_target, target, *more)
+    return lambda numbers, has_target, target, *more: (
+        (16, 0) if has_target and model.bad_target(target) else door(numbers, has_target, target, *more))
 
 
-def every_target(numbers, has_target, target, *more):
+def every_target(door):
     """Judges a target that is not there."""
-    return WRITE_DOOR(numbers, has_target or model.bad_target(target), target, *more)
+    return lambda numbers, has_target, target, *more: door(numbers, has_target or model.bad_target(target), target, *more)
+
+
+def one_says_yes(door):
+    """Takes any number but 1 for 0."""
+    return lambda numbers, has_target, *more: door(numbers, has_target == 1, *more)
+
+
+def counted(change):
+    """Counts the bytes of another text. What changes it gets the text and the number of points."""
+    def door(numbers, *more):
+        refusal, text = TEXT_OF(numbers, *more)
+        return refusal, 0 if refusal else len(change(text, len(numbers) // NUMBERS))
+    return door
+
+
+def without(pattern):
+    """Does not count these bytes."""
+    return counted(lambda text, points: re.sub(pattern, b'', text, flags=re.M))
+
+
+def not_judged(number):
+    """Counts what is refused by this number."""
+    def door(numbers, has_target, target, comma):
+        points = model.points_of(numbers[:len(numbers) // NUMBERS * NUMBERS])
+        refusal, size = SIZE_DOOR(numbers, has_target, target, comma)
+        return (0, len(ROUTE_TEXT(points, target if has_target else None, comma))) if refusal == number else (refusal, size)
+    return door
+
+
+def size_beside_refusal(numbers, has_target, target, comma):
+    """Says how long the text would be without the target that refuses it."""
+    refusal, size = SIZE_DOOR(numbers, has_target, target, comma)
+    return refusal, SIZE_DOOR(numbers, 0, 0, comma)[1] if refusal == 16 else size
 
 
 # parts of the model, each replaced by a wrong one
@@ -427,15 +465,32 @@ WRONG = [
     ('bad_room', lambda text, output, place: 15 if len(text) > len(output) else 0),
     ('bad_room', lambda text, output, place: 15 if len(text) >= max(len(output) - place, 0) else 0),
     ('bad_room', lambda text, output, place: 15 if (place + len(text)) % 2**64 > len(output) else 0),
-    *(('DOORS', {**model.DOORS, 'write_route': wrong}) for wrong in (longer_write, hasty_write, late_target, early_target, every_target)),
-    # any number but 1 taken for 0, and 256
-    ('DOORS', {**model.DOORS, 'write_route': lambda numbers, has_target, *more: WRITE_DOOR(numbers, has_target == 1, *more)}),
+    *(('DOORS', {**model.DOORS, 'write_route': wrong}) for wrong in (longer_write, hasty_write, late_target)),
+    *(('DOORS', {**model.DOORS, name: wrong(door)}) for name, door in (('route_size', SIZE_DOOR), ('write_route', WRITE_DOOR))
+      for wrong in (early_target, every_target, one_says_yes)),
+    # 256 taken for 0
     ('DOORS', {**model.DOORS, 'write_route': lambda numbers, has_target, target, comma, *more: WRITE_DOOR(
         numbers, has_target, target, comma % 256, *more)}),
+    # not counted: `g`, the last `p` line, the target's line, that of a target of 0, a minus, the mark, tabs, the last LF, a lone 0, the third digit
+    # before the mark, the seventh decimal
+    *(('DOORS', {**model.DOORS, 'route_size': without(pattern)}) for pattern in (
+        rb'^g\n', rb'^p.*\n\Z', rb'^t.*\n', rb'^t\t0\n', rb'-', rb'[.,]', rb'\t', rb'\n\Z', rb'\b0(?=[.,])', rb'(?<=[-\t]\d\d)\d',
+        rb'(?<=[.,]\d{6})\d')),
+    # counted: a byte more under comma, `g` before the first point, a line for no target, decimals that end in zero, a byte behind the text; the most
+    # that so many points need; 8 bits of the size
+    *(('DOORS', {**model.DOORS, 'route_size': counted(change)}) for change in (
+        lambda text, points: text.replace(b'comma', b'commas'), lambda text, points: text.replace(b'p\t', b'g\np\t', 1),
+        lambda text, points: text if b'\nt\t' in text else text + b't\t0\n', lambda text, points: re.sub(rb'[.,]\d+', b'.0000000', text),
+        lambda text, points: text + b'\0', lambda text, points: bytes(max(22, 20 + 29 * points)), lambda text, points: bytes(len(text) % 256))),
+    # 15 as for a writing into no output; each refusal left out; a size beside a refusal; 32 bits of a target
+    *(('DOORS', {**model.DOORS, 'route_size': wrong}) for wrong in (
+        lambda *route: WRITE_DOOR(*route, bytearray(), 0), *map(not_judged, (6, 7, 9, 16, 17)), size_beside_refusal,
+        lambda numbers, has_target, target, comma: SIZE_DOOR(numbers, has_target, target % 2**32, comma))),
 ]
 # what chance brings seldom or never: the sine of 0 half ticks refused; m, the last product and r worked out in floats; a root of ten
 # digits one less at its square; the first target that is too great accepted; the sum in 32 bits, with a sign and without, that a target is held
-# to; third numbers behind the 1,000th point not judged; 6 of all points before 7 of any; one byte or one target taken for another
+# to; third numbers behind the 1,000th point not judged; 6 of all points before 7 of any; 15 for the longest text; one byte or one target taken
+# for another
 WRONG_SELDOM = [
     ('half_ticks_in_range', lambda half_ticks: 0 < half_ticks <= QUARTER_IN_HALVES),
     ('leg_number', number_by(product=lambda cosine, cosine2: int(cosine * cosine2 / LEG_UNIT))),
@@ -447,6 +502,7 @@ WRONG_SELDOM = [
     ('lengths_of', lambda points: [length % 2**32 for length in LENGTHS_OF(points)]),
     ('bad_thirds', lambda numbers: BAD_THIRDS(numbers if len(numbers) % NUMBERS else numbers[:model.MOST_NUMBERS])),
     ('bad_points', lambda points: BAD_POINTS([(point[0], 0, 0) for point in points]) or BAD_POINTS(points)),
+    ('DOORS', {**model.DOORS, 'route_size': lambda *route: WRITE_DOOR(*route, bytearray(29_019), 0)}),
     ('number_of', lambda field, *more, **rule: NUMBER_OF(field.replace(b'\xb5', b'5'), *more, **rule)),
     ('number_of', lambda field, *more, **rule: NUMBER_OF(field.rstrip(b'\x1a'), *more, **rule)),
     ('lines_of', lambda text: LINES_OF(text.replace(b'\x85', b'\n'))),
@@ -466,7 +522,7 @@ def modelled(given):
             *route, room, place = arguments
             output = doors.lent_output(room)
             yield doors.line_of((*model.DOORS[door](*route, output, place), 1, bytes(output)))
-        elif door in ('measure', 'target_met'):
+        elif door in ('measure', 'target_met', 'route_size'):
             yield doors.line_of((*model.DOORS[door](*arguments), 1))
         else:
             yield doors.line_of(model.DOORS[door](*arguments))
@@ -543,6 +599,23 @@ def unmet(target, lengths, line):
         yield 'it is the shortest such one'
     if not met and looked != len(lengths) - 1:
         yield 'the number is n if none does'
+
+
+def unforetold(number, need, room, place, line):
+    """What a writing into so many bytes from a place on does not keep of these sentences, by what `route_size` answers about its route: the number of
+    a refusal, and so many bytes."""
+    refusal, size, kept, output = line.split()
+    said = int(refusal), int(size)
+    if number and said != (number, need):
+        yield 'what refuses the question refuses the writing, whatever the room'
+    if not number and room < need and said != (15, 0):
+        yield '15 comes where the output from the place on is shorter'
+    if not number and room >= need and said != (0, need):
+        yield 'and only there: else the text has so many bytes'
+    # no byte of a text stands in the output before
+    differ = [k for k, (byte, before) in enumerate(zip(bytes.fromhex(output[1:]), doors.lent_output(place + room))) if byte != before]
+    if kept != '1' or differ != [*range(place, place + said[1])]:
+        yield 'they are written from the place on, and nothing else changes'
 
 
 def answered_runs(some, count, length):
@@ -630,7 +703,7 @@ class Fixed(Compared, unittest.TestCase):
     @classmethod
     def setUpClass(cls):
         cls.given = [*Figures.given, *calls.every_byte(), *calls.sines(), *calls.half_sines(), *calls.sheets(), *calls.places(), *calls.legs(),
-                     *calls.courses(), *calls.steps(), *calls.files(ROUTES), *calls.writings(), *calls.roots(), *calls.targets()]
+                     *calls.courses(), *calls.steps(), *calls.files(ROUTES), *calls.sizes(), *calls.writings(), *calls.roots(), *calls.targets()]
         random.Random(SEED).shuffle(cls.given)  # as Random does
         cls.said = doors.answers(cls.given)
 
@@ -734,11 +807,43 @@ class Met(unittest.TestCase):
                 self.assertTrue(any(unmet(target, self.lengths[numbers], doors.line_of((0, *wrong, 1)))), (numbers, target, wrong))
 
 
+class Sized(unittest.TestCase):
+    """How much room routes need, held to what the door `write_route` answers where it has so much, a byte less, none, and enough for any."""
+
+    @classmethod
+    def setUpClass(cls):
+        routes = [call[1:] for call in (*calls.sizes(), *calls.random_sizes(random.Random(SEED), COUNT)) if call[0] == 'route_size']
+        tried = {}
+        for route, line in zip(routes, doors.answers([('route_size', *route) for route in routes])):
+            number, need, _ = map(int, line.split())
+            rooms = {0, max(need - 1, 0), need, calls.output_for(len(route[0]) // NUMBERS)}
+            tried[route, number, need] = [*itertools.product(sorted(rooms), (0, 11))]
+        lines = iter(doors.answers([('write_route', *route, place + room, place) for (route, *_), where in tried.items() for room, place in where]))
+        cls.said = [(*sized, [(*one, next(lines)) for one in where]) for sized, where in tried.items()]
+
+    def test_every_writing_is_as_the_size_says(self):
+        self.assertEqual({number for _, number, *_ in self.said}, REFUSALS['route_size'])
+        found = [said for said in self.said if any(any(unforetold(*said[1:3], *one)) for one in said[-1])]
+        self.assertEqual(found[:3], [])
+
+    def test_a_size_with_one_number_changed_is_seen(self):
+        for route, number, need, writings in self.said:
+            for wrong in ((number + 1, 0), (number, 12), (0, 12)) if number else ((0, need - 1), (0, need + 1), (15, 0)):
+                self.assertTrue(any(any(unforetold(*wrong, *one)) for one in writings), (route, wrong))
+
+    def test_the_longest_of_every_count(self):
+        # "n points need at most 22 + 29n bytes"; of these two are left, as no `g` stands before the first
+        longest = [('route_size', count * LONGEST, 1, model.MOST_TARGET, count % 2) for count in range(1, 1_001)]
+        self.assertEqual(doors.answers(longest), [f'0 {20 + 29 * count} 1' for count in range(1, 1_001)])
+        counts = [(len(route[0]) // NUMBERS, need) for route, number, need, _ in self.said if not number]
+        self.assertEqual([(count, need) for count, need in counts if not 12 + 6 * count <= need <= max(22, 20 + 29 * count)], [])
+
+
 class Placed(unittest.TestCase):
     """Texts, buffers and outputs at every alignment, and right beside memory that may not be read."""
     GIVEN = [*(('read_route', calls.room_for(text.count(b'\np\t')), text) for text, *_ in (*REFUSED_TEXTS, *ACCEPTED_TEXTS)),
              *(call for call, _ in MEASURES), *(('target_met', numbers, target) for numbers, answers in PLANS.items() for target in answers),
-             *FITTING, ('write_route', (), 0, 0, 0, 0, 0)]
+             *(sizing(numbers, target, 0) for numbers, target, _ in SIZED), *FITTING, ('write_route', (), 0, 0, 0, 0, 0)]
 
     def differing_at(self, places, given):
         placed = [('at', place, *call) for call in given for place in places]
@@ -768,11 +873,12 @@ class Counts(unittest.TestCase):
         given = [('far', count, *reading) for count in (2**31, 2**32, 2**32 + 5, 2**61 - 1) for reading in routes]
         self.assertEqual(differing(given, doors.answers(given), modelled(map(plain, given))), [])
 
-    def test_a_buffer_that_is_measured_or_written(self):
+    def test_a_buffer_that_is_measured_sized_or_written(self):
         # "17 buffer not a multiple of three"; a multiple of three is judged to its end, which takes more than a test has
         counts = (2**32, 2**32 + 1, 2**32 + 3, 2**61 - 1)
         self.assertEqual(doors.answers([('far', count, 'measure', (0, 0, 1)) for count in counts]), len(counts) * ['17 0 1'])
         self.assertEqual(doors.answers([('far', count, 'target_met', (0, 0, 1), 0) for count in counts]), len(counts) * ['17 0 0 1'])
+        self.assertEqual(doors.answers([('far', count, 'route_size', (0, 0, 1), 0, 0, 0) for count in counts]), len(counts) * ['17 0 1'])
         self.assertEqual(doors.answers([('far_points', count) for count in counts]), len(counts) * ['17 0'])
 
     def test_an_output(self):
@@ -831,7 +937,7 @@ class Random(Compared, unittest.TestCase):
     def setUpClass(cls):
         some = random.Random(SEED)
         cls.given = [*calls.random_calls(some, 80 * COUNT), *calls.random_readings(some, COUNT), *calls.random_measures(some, COUNT),
-                     *calls.random_targets(some, COUNT), *calls.random_writings(some, 2 * COUNT)]
+                     *calls.random_targets(some, COUNT), *calls.random_sizes(some, 2 * COUNT), *calls.random_writings(some, 2 * COUNT)]
         some.shuffle(cls.given)  # so that what is wrong with one door is seen before all the others are through
         cls.said = doors.answers(cls.given)
         given, said = answered_runs(some, COUNT // 4, 40)
@@ -861,6 +967,14 @@ class Guards(unittest.TestCase):
             %(after_writing)s;
             return r;
         }
+        senruhobi_written __real_senruhobi_route_size(const int32_t *, size_t, uint32_t, uint64_t, uint32_t);
+        senruhobi_written __wrap_senruhobi_route_size(const int32_t *points, size_t numbers, uint32_t has_target, uint64_t target, uint32_t comma)
+        {
+            %(before_sizing)s;
+            senruhobi_written r = __real_senruhobi_route_size(points, numbers, has_target, target, comma);
+            %(after_sizing)s;
+            return r;
+        }
         senruhobi_length __real_senruhobi_measure(const int32_t *, size_t);
         senruhobi_length __wrap_senruhobi_measure(const int32_t *points, size_t numbers)
         {
@@ -881,6 +995,7 @@ class Guards(unittest.TestCase):
     READ = [('read_route', 8, route('point', 'p 0 0', 'p 0 90')), ('read_route', 8, route('point', 'p 0 0')[:-1])]
     MEASURED = [('measure', (0, 0, 1, 0, 900_000_000, 0)), ('measure', (0, 0, 0))]
     ASKED = [('target_met', (0, 0, 1, 0, 900_000_000, 0), 1), ('target_met', (0, 0, 0), 1)]
+    SIZED = [('route_size', (0, 0, 1, 0, 900_000_000, 0), 0, 0, 0), ('route_size', (0, 0, 0), 0, 0, 0)]
     WRITTEN = [('write_route', (0, 0, 1, 0, 900_000_000, 0), 0, 0, 0, 40, 7), ('write_route', (0, 0, 0), 0, 0, 0, 40, 7)]
 
     def answers(self, given, **spoilt):
@@ -888,7 +1003,7 @@ class Guards(unittest.TestCase):
         with tempfile.TemporaryDirectory() as room:
             source = pathlib.Path(room) / 'between.c'
             source.write_text(self.BETWEEN % collections.defaultdict(str, spoilt), encoding='utf-8')
-            wrapped = [f'--wrap=senruhobi_{door}' for door in ('read_route', 'measure', 'target_met', 'write_route')]
+            wrapped = [f'--wrap=senruhobi_{door}' for door in ('read_route', 'measure', 'target_met', 'route_size', 'write_route')]
             return doors.answers(given, doors.linked(source.parent, *wrapped, doors.compiled(source, source.parent)))
 
     def seen(self, given, **spoilt):
@@ -896,19 +1011,19 @@ class Guards(unittest.TestCase):
         return len(differing(given, self.answers(given, **spoilt), modelled(map(plain, given)), most=len(given)))
 
     def test_doors_that_are_not_spoilt(self):
-        given = [*self.READ, *self.MEASURED, *self.ASKED, *self.WRITTEN]
+        given = [*self.READ, *self.MEASURED, *self.ASKED, *self.SIZED, *self.WRITTEN]
         self.assertEqual(self.seen([*given, *(('at', place, *call) for call in given for place in (0, -1))]), 0)
 
     def test_a_door_that_changes_what_is_not_its_own(self):
-        # beside the buffer or the output, at both ends of the driver's memory, in the text, and in what is only measured or written
+        # beside the buffer or the output, at both ends of the driver's memory, in the text, and in what is only measured, sized or written
         for place in ('buffer[-1]', 'buffer[-4096]', 'buffer[numbers]', 'buffer[12287]', '((uint8_t *)text)[bytes - 1]'):
             with self.subTest(place):
                 self.assertEqual(self.seen(self.READ, after_reading=f'{place} = 0'), 2)
         for place in ('[-1]', '[-4096]', '[numbers]', '[12287]', '[0]', '[numbers - 1]'):
             with self.subTest(place):
                 spoilt = f'((int32_t *)points){place} = 7'
-                given = [*self.MEASURED, *self.ASKED, *self.WRITTEN]
-                self.assertEqual(self.seen(given, after_measuring=spoilt, after_asking=spoilt, after_writing=spoilt), 6)
+                given = [*self.MEASURED, *self.ASKED, *self.SIZED, *self.WRITTEN]
+                self.assertEqual(self.seen(given, after_measuring=spoilt, after_asking=spoilt, after_sizing=spoilt, after_writing=spoilt), 8)
         for place in ('[-1]', '[-4096]', '[bytes]', '[61439]'):
             with self.subTest(place):
                 self.assertEqual(self.seen(self.WRITTEN, after_writing=f'out{place} = 7'), 2)
@@ -928,6 +1043,7 @@ class Guards(unittest.TestCase):
         for when, call, begin, behind in (('before_reading', self.READ[0], 'text', 'bytes'), ('before_reading', self.READ[0], 'buffer', 'numbers'),
                                           ('before_measuring', self.MEASURED[0], 'points', 'numbers'),
                                           ('before_asking', self.ASKED[0], 'points', 'numbers'),
+                                          ('before_sizing', self.SIZED[0], 'points', 'numbers'),
                                           ('before_writing', self.WRITTEN[0], 'points', 'numbers'),
                                           ('before_writing', self.WRITTEN[0], 'out', 'bytes')):
             for place, what in ((0, f'{begin} - 1'), (-1, f'{begin} + {behind}')):
@@ -936,12 +1052,13 @@ class Guards(unittest.TestCase):
 
     def test_a_door_that_takes_32_bits_of_a_count(self):
         cut = {'before_reading': 'bytes = (uint32_t)bytes, numbers = (uint32_t)numbers', 'before_measuring': 'numbers = (uint32_t)numbers',
-               'before_asking': 'numbers = (uint32_t)numbers',
+               'before_asking': 'numbers = (uint32_t)numbers', 'before_sizing': 'numbers = (uint32_t)numbers',
                'before_writing': 'numbers = (uint32_t)numbers, bytes = (uint32_t)bytes, place = (uint32_t)place'}
         given = [('far_text', 2**32), *(('far', 2**32 + 5, *call) for call in self.READ), ('far', 2**32 + 3, 'measure', (0, 0, 1)),
-                 ('far', 2**32 + 3, 'target_met', (0, 0, 1), 0), ('far_points', 2**32), ('far', 2**32 + 5, *self.WRITTEN[0]), (*self.WRITTEN[0][:-1], 2**32)]
-        self.assertEqual([line.split()[0] for line in self.answers(given)], ['1', '0', '3', '17', '17', '17', '0', '15'])
-        self.assertEqual([line.split()[0] for line in self.answers(given, **cut)], ['2', '10', '3', '0', '0', '15', '15', '0'])
+                 ('far', 2**32 + 3, 'target_met', (0, 0, 1), 0), ('far', 2**32 + 3, 'route_size', (0, 0, 1), 0, 0, 0), ('far_points', 2**32),
+                 ('far', 2**32 + 5, *self.WRITTEN[0]), (*self.WRITTEN[0][:-1], 2**32)]
+        self.assertEqual([line.split()[0] for line in self.answers(given)], ['1', '0', '3', '17', '17', '17', '17', '0', '15'])
+        self.assertEqual([line.split()[0] for line in self.answers(given, **cut)], ['2', '10', '3', '0', '0', '0', '15', '15', '0'])
         with self.assertRaisesRegex(RuntimeError, 'where it may not'):
             self.answers([('far_text', 2**32 + 12)], **cut)
 

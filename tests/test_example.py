@@ -64,7 +64,9 @@ class Example(unittest.TestCase):
         readme = README.read_text(encoding='utf-8')
         for shown in (SOURCE.read_text(encoding='utf-8'), expected(), SHOWN):
             self.assertIn(textwrap.indent(shown, '    '), readme)
-        self.assertIn(called(REMARK.read_text(encoding='utf-8')), readme)
+        remark = REMARK.read_text(encoding='utf-8')
+        self.assertIn(called(remark), readme)
+        self.assertIn('uint8_t out[SENRUHOBI_MOST_WRITTEN];', remark)  # which the README says
 
     @built.needs('cc')
     @built.on_x86_64

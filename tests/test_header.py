@@ -10,10 +10,12 @@ import built
 import doors
 import elf
 import model
+from figures import LONGEST
 
 HEADER = built.ROOT / 'include/senruhobi.h'
 # the constants, and the crate that knows each
-CONSTANTS = {'NUMBERS': 'points', 'MOST_POINTS': 'points', 'MOST_NUMBERS': 'points', 'MOST_BYTES': 'route', 'MOST_PAIRS': 'roots'}
+CONSTANTS = {'NUMBERS': 'points', 'MOST_POINTS': 'points', 'MOST_NUMBERS': 'points', 'MOST_BYTES': 'route', 'MOST_WRITTEN': 'writer',
+             'MOST_PAIRS': 'roots'}
 IN_RATTLE = re.compile(r'\bconst (\w+): \w+ = ([\w *]+);')
 IN_C = re.compile(r'\bSENRUHOBI_(\w+) = ([\w *]*\w)')
 REFUSED = re.compile(r'SENRUHOBI_REFUSED_(\w+) = (\d+),? /\* (.*) \*/')
@@ -63,12 +65,21 @@ class Header(unittest.TestCase):
 
     def test_a_header_that_says_otherwise_is_seen(self):
         for old, new, name in (('_NUMBERS = 3', '_NUMBERS = 4', 'NUMBERS'), ('_MOST_POINTS = 1000', '_MOST_POINTS = 1001', 'MOST_POINTS'),
-                               ('_BYTES = 60000', '_BYTES = 60001', 'MOST_BYTES'), ('_PAIRS = 10', '_PAIRS = 11', 'MOST_PAIRS'),
-                               ('_PLACE = 11', '_PLACE = 12', 'PLACE'),
+                               ('_BYTES = 60000', '_BYTES = 60001', 'MOST_BYTES'), ('_WRITTEN = 29020', '_WRITTEN = 29022', 'MOST_WRITTEN'),
+                               ('_PAIRS = 10', '_PAIRS = 11', 'MOST_PAIRS'), ('_PLACE = 11', '_PLACE = 12', 'PLACE'),
                                ('_MOVE = 1', '_MOVE = 3', 'MOVE'), ('_REFUSED_BUFFER', '_REFUSED_OTHER', 'BUFFER'),
                                ('_REFUSED_BUFFER', '_REFUSED_OTHER', 'OTHER')):
             self.assertIn(old, self.header)
             self.assertIn(name, self.differing(self.header.replace(old, new)))
+
+    def test_the_most_that_is_written_is_what_the_longest_route_needs(self):
+        most = constants(IN_C, self.header)['MOST_WRITTEN']
+        for comma in (0, 1):
+            route = (model.MOST_POINTS * LONGEST, 1, model.MOST_TARGET, comma)
+            self.assertEqual(doors.answers([('route_size', *route)]), [f'0 {most} 1'])
+            self.assertEqual(model.DOORS['route_size'](*route), (0, most))
+        readme = (built.ROOT / 'README.md').read_text(encoding='utf-8')
+        self.assertIn(f'{most:,} bytes', ' '.join(readme.split()))
 
     def test_the_readme_has_the_same_table(self):
         readme = (built.ROOT / 'README.md').read_text(encoding='utf-8')

@@ -14,7 +14,7 @@ use numbers::Kind;
 use numbers::Mark;
 use refusals::OUTPUT;
 
-// How many bytes were written, or why none was.
+// How many bytes a text has, or why it is refused.
 pub enum Writing {
     Bytes(usize),
     Refused(u32),

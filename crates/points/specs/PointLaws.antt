@@ -154,7 +154,7 @@ record PointAfter (k : ℕ) (b : List ℤ) (i : ℕ) : Type 0 where
   third : fitsAfter (k + i) (thirdAt b i) ≡ true
 
 -- the numbers of the points behind the first
-behind : (lat lon third : ℤ) (b : List ℤ) (i k : ℕ) → partAt (pointNumbers lat lon third ++ b) (suc i) k ≡ partAt b i k
+pub behind : (lat lon third : ℤ) (b : List ℤ) (i k : ℕ) → partAt (pointNumbers lat lon third ++ b) (suc i) k ≡ partAt b i k
 behind lat lon third b i k = let e : numbers * suc i + k ≡ suc (suc (suc (numbers * i + k))) = omega arith in rw e
 
 points-at : {k : ℕ} {b : List ℤ} → Points k b → (i : ℕ) → i < count b → PointAfter k b i

@@ -46,6 +46,9 @@ senruhobi-target-met = answers (λ κs a v w. refl)
 pub senruhobi-read-route : One senruhobi.senruhobi_read_route.ended senruhobi.senruhobi_read_route.Reads.Asked senruhobi.senruhobi_read_route.Reads.Learnt
 senruhobi-read-route = leaves (λ κs a v w p. ap (λ (l : List ℤ). (tt, (l, tt))) p)
 
+pub senruhobi-route-size : One senruhobi.senruhobi_route_size.ended senruhobi.senruhobi_route_size.Reads.Asked senruhobi.senruhobi_route_size.Reads.Learnt
+senruhobi-route-size = answers (λ κs a v w. refl)
+
 pub senruhobi-write-route : One senruhobi.senruhobi_write_route.ended senruhobi.senruhobi_write_route.Reads.Asked senruhobi.senruhobi_write_route.Reads.Learnt
 senruhobi-write-route = leaves (λ κs a v w p. ap (λ (l : List ℕ). (tt, (tt, (tt, (tt, (l, (tt, tt))))))) p)
 

@@ -13,7 +13,7 @@ ghost use Rattle.globe.specs.Course.{courseOf};
 ghost use Rattle.globe.specs.Met.{metOf};
 ghost use Rattle.route.specs.Paper.{readingPaper};
 ghost use Rattle.route.specs.Route.{readingOf, bufferOf};
-ghost use Rattle.writer.specs.Paper.{answer, left, targetOf, markOf};
+ghost use Rattle.writer.specs.Paper.{sized, answer, left, targetOf, markOf};
 ghost use Rattle.pen.specs.Paper.{stepped};
 
 mod out;
@@ -154,6 +154,18 @@ fn mark(comma: u32) -> Mark
         return Mark::Point;
     }
     Mark::Comma
+}
+
+#[no_mangle]
+pub extern "C" fn senruhobi_route_size(
+    points: &[i32],
+    targeted: u32,
+    millimetres: u64,
+    comma: u32,
+) -> WritingOut
+    ensures { λ r. ⌜ r ≡ sized (markOf comma) (targetOf targeted millimetres) (now (points .entry)) ⌝ }
+{
+    out::writing(writer::size(points, target(targeted, millimetres), mark(comma)))
 }
 
 #[no_mangle]

@@ -1,4 +1,4 @@
--- A writing in the paper's own numbers: what is answered, what stands in the output afterwards, and how a target and a mark are given in numbers.
+-- A writing in the paper's own numbers: its length, what is answered, what stands in the output afterwards, and how a target and a mark are given in numbers.
 -- Assumes nothing.
 use mathlib.Core.List.{List}
 use Prim.Native.Nat.{ℕ, zero, suc}
@@ -11,6 +11,10 @@ use Rattle.numerals.specs.Paper.{writingPaper}
 use Rattle.route.specs.declared.Target.{Target}
 use Rattle.route.specs.declared.Target.the-variants as T
 use Rattle.writer.specs.RouteText.{routeText, textRefusal}
+use Rattle.writer.specs.Room.{sizeOf}
+
+abbrev pub sized : Mark → Target → List ℤ → WritingOut
+sized mark target points = writingPaper (sizeOf mark target points)
 
 abbrev pub answer : Mark → Target → List ℤ → ℕ → List ℕ → WritingOut
 answer mark target points place out = writingPaper (writingOf (textRefusal target points) (routeText mark target points) place out)

@@ -3,7 +3,7 @@
 use mathlib.Core.Path.{_≡_, refl, sym, _∙_}
 use mathlib.Core.Bool.{true, false, not, _&&_}
 use mathlib.Core.List.{List, [], _∷_, _++_, append-assoc}
-use Prim.Native.Nat.{ℕ, zero, suc, _+_, _*_, _/_, _%_, _≤_, _<_}
+use Prim.Native.Nat.{ℕ, zero, suc, _+_, _-_, _*_, _/_, _%_, _≤_, _<_}
 use Prim.Native.Char.{code}
 use native.Mathlib.Omega.{arith}
 use borrow.Author.Tests.{not-true, le-leb, leb-true, lt-ltb, eqb-true, eq-eqb}
@@ -116,19 +116,22 @@ target-most mark (T.Millimetres mm) e =
 gap-says : (P : List (List ℕ) → Type 0) (b : List ℤ) (i : ℕ) → P (bytes "g" ∷ []) → P [] → P (gapBefore b i)
 gap-says P b i g n = by-test (leb 1 i && eqZ (thirdAt b i) (pos 1)) (λ t. rw t g) (λ t. rw t n)
 
+-- two bytes, and none before the first point
+gap-most : (b : List ℤ) (i : ℕ) → length (ended (gapBefore b i)) ≤ 2 - (2 - 2 * i)
+gap-most b zero = omega arith
+gap-most b (suc i) = gap-says (λ ss. length (ended ss) ≤ 2 - (2 - 2 * suc i)) b (suc i) (omega arith) (omega arith)
+
 module _ (mark : Mark) (b : List ℤ) (e : bufferRefusal b ≡ 0) where
-  pub points-most : (n : ℕ) → n ≤ count b → length (ended (pointLines mark b n)) ≤ 29 * n
+  pub points-most : (n : ℕ) → n ≤ count b → length (ended (pointLines mark b n)) ≤ 29 * n - 2
   points-most zero h = omega arith
   points-most (suc i) h =
       let lat = latitudeAt b i in
       let lon = longitudeAt b i in
       let p = point-of b e i h in
-      let gap = gap-says (λ ss. length (ended ss) ≤ 2) b i (omega arith) (omega arith) in
       rw (points-next mark b i)
-      (simp length-append (omega (arith, points-most i (omega arith), numeral-most K.Latitude mark lat (p .latitude), numeral-most K.Longitude mark lon (p .longitude))))
+      (simp length-append (omega (arith, gap-most b i, points-most i (omega arith), numeral-most K.Latitude mark lat (p .latitude), numeral-most K.Longitude mark lon (p .longitude))))
 
--- "n points need at most 22 + 29n bytes"
-pub text-most : (mark : Mark) (target : Target) (b : List ℤ) → textRefusal target b ≡ 0 → length (routeText mark target b) ≤ 22 + 29 * count b
+pub text-most : (mark : Mark) (target : Target) (b : List ℤ) → textRefusal target b ≡ 0 → length (routeText mark target b) ≤ 22 + (29 * count b - 2)
 text-most mark target b e =
     let a = text-accepted target b e in
     omega (arith, text-length mark target b, target-most mark target (a .1), points-most mark b (a .0) (count b) (omega arith))
