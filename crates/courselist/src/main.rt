@@ -1,5 +1,7 @@
 // Reads a route from standard input and prints a line for each counted leg, its course and its length, or the refusal and its line.
 // Where it cannot read or print, it says so on standard error: a program has no status by which it could.
+#![tactic(auto)]
+
 use globe::{Direction, Length};
 use points::{MOST_NUMBERS, latitude, longitude, third};
 use route::Reading;

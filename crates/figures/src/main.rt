@@ -1,5 +1,7 @@
 // Runs the figures that the documents give, and prints one answer a line; the file stdout has what the documents say.
 // A refusal prints its number behind `refused`. Angles are in ticks.
+#![tactic(auto)]
+
 mod pens;
 
 use globe::{Length, Place, Point, Sine};

@@ -1,6 +1,8 @@
 // The globe: sines of an angle, two sheets there and back, lengths, courses and whether a target is met. Every answer is a value or a refusal's number.
 // Each function makes the table of sines first of all and lends it to the work: nothing returns before it is made, since the compiled
 // code can go wrong where a function returns before it makes a large local (docs/DECISIONS.md, "The table is made first").
+#![tactic(auto)]
+
 ghost use Rattle.std.specs.Prelude.{◌≡◌};
 ghost use Rattle.globe.specs.Angle.{long_sine_of, short_sine_of, long_sine_half_of};
 ghost use Rattle.globe.specs.Sheet.{cylindrical_of, sinusoidal_of, cylindrical_back_of, sinusoidal_back_of};

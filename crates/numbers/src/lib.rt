@@ -1,4 +1,6 @@
 // A number in a text: the decimal marks, the kinds of field, and one field read exactly or refused.
+#![tactic(auto)]
+
 ghost use Rattle.std.specs.Prelude.{◌≡◌};
 ghost use Rattle.numbers.specs.Number.{named_byte, other_byte, places, takes_minus, number_of};
 ghost use Rattle.numbers.specs.NumberLaws.{range_refusal, fault_of};

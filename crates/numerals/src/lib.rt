@@ -1,4 +1,6 @@
 // A number's text: how long it is, and its writing into the start of a lent output, one way for each value.
+#![tactic(auto)]
+
 ghost use Rattle.std.specs.Prelude.{◌≡◌, length};
 ghost use Rattle.numbers.specs.declared.Mark.TheVariants as M;
 ghost use Rattle.numerals.specs.Numeral.{numeral_of};

@@ -1,5 +1,7 @@
 // The pen: what it draws at a point of a route, in a window on the sinusoidal sheet. Every step answers a stroke or a refusal's
 // number, and the next pen.
+#![tactic(auto)]
+
 ghost use Rattle.std.specs.Prelude.{◌≡◌};
 ghost use Rattle.pen.specs.Pen.{is_window, is_divisor, inside, new_pen, drawn, step_of};
 

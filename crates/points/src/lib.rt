@@ -1,5 +1,7 @@
 // The point buffer: how many numbers a point has and which is which, how many points there are, and what refuses a buffer. Nothing else
 // knows how a point's numbers lie.
+#![tactic(auto)]
+
 ghost use Rattle.std.specs.Prelude.{◌≡◌, ◌<◌};
 ghost use Rattle.points.specs.Points.{numbers, count, part_at, latitude_at, longitude_at, third_at, put_at, fits_after, thirds_fit, points_refusal, buffer_refusal};
 

@@ -2,7 +2,8 @@
 -- Assumes nothing.
 use mathlib.Core.Path.{refl}
 use Rattle.refusals.specs.One.{One, answers}
+use Rattle.refusals.specs.contracts as contracts
 use Rattle.refusals.proofs as refusals
 
-pub first_of : One refusals.first_of.ended refusals.first_of.Reads.Asked refusals.first_of.Reads.Learnt
+pub first_of : One contracts.first_of.ended refusals.first_of.Reads.Asked refusals.first_of.Reads.Learnt
 first_of = answers (λ κs a v w. refl)

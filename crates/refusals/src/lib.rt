@@ -1,4 +1,6 @@
 // The numbers that are sent back, in the order of the document's table, and the first of two. 0 is none.
+#![tactic(auto)]
+
 ghost use Rattle.std.specs.Prelude.{◌≡◌};
 ghost use Rattle.refusals.specs.Choice.{first_of};
 

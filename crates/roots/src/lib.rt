@@ -1,4 +1,6 @@
 // The whole-number square root by the school method: two decimal digits of a number for each digit of its root, from the left.
+#![tactic(auto)]
+
 ghost use Rattle.std.specs.Prelude.{◌≡◌, ◌^◌, ◌<◌};
 ghost use Rattle.roots.specs.Root.{root_of};
 ghost use Rattle.roots.specs.School.{behind_first, taken, digit_of, school_of};

@@ -4,7 +4,8 @@ use mathlib.Core.Path.{ap}
 use mathlib.Core.List.{List}
 use lib.IntN.{ℤ}
 use Rattle.refusals.specs.One.{One, leaves}
+use Rattle.route.specs.contracts as contracts
 use Rattle.route.proofs as route
 
-pub read : One route.read.ended route.read.Reads.Asked route.read.Reads.Learnt
+pub read : One contracts.read.ended route.read.Reads.Asked route.read.Reads.Learnt
 read = leaves (λ κs a v w p. ap (λ (l : List ℤ). (tt, (l, tt))) p)

@@ -1,4 +1,6 @@
 // A route's text: read exactly, or refused with a number and a line.
+#![tactic(auto)]
+
 ghost use Rattle.std.specs.Prelude.{◌≡◌, ◌*◌, ◌≤◌, length};
 ghost use Rattle.points.specs.Points.{numbers, most_points};
 ghost use Rattle.route.specs.Route.{reading_of, buffer_of};

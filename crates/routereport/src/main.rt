@@ -1,5 +1,7 @@
 // Reads a route from standard input and prints its points, length and target, or the refusal and its line. Where
 // it cannot read or print, it says so on standard error: a program has no status by which it could.
+#![tactic(auto)]
+
 use points::MOST_NUMBERS;
 use route::{Reading, Target};
 use streams::{Input, field, read_route, refused, text};

@@ -1,6 +1,8 @@
 // The doors for C and for what can call C: numbers and slices in, a struct by value out. In `refusal` 0 means accepted; beside a refusal every
 // field is 0, but for the line of a text and the pen of a step, which is the one that came in. The steps of a root are never refused.
 // include/senruhobi.h declares the same for C.
+#![tactic(auto)]
+
 ghost use Rattle.std.specs.Prelude.{◌≡◌, length};
 ghost use Rattle.roots.specs.School.{school_of};
 ghost use Rattle.globe.specs.Paper.{sine_paper, place_paper, point_paper, length_paper, direction_paper, met_paper};

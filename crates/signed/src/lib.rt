@@ -1,4 +1,6 @@
 // Signed numbers: the size of one, and a size with the sign of another.
+#![tactic(auto)]
+
 ghost use Rattle.std.specs.Prelude.{◌≡◌, nat_abs};
 ghost use Rattle.std.specs.Int.{w64};
 ghost use Rattle.signed.specs.Sign.{sign_as, nearest};

@@ -2,7 +2,8 @@
 -- Assumes nothing.
 use mathlib.Core.Path.{refl}
 use Rattle.refusals.specs.One.{One, answers}
+use Rattle.sines.specs.contracts as contracts
 use Rattle.sines.proofs as sines
 
-pub table_of_sines : One sines.table_of_sines.ended sines.table_of_sines.Reads.Asked sines.table_of_sines.Reads.Learnt
+pub table_of_sines : One contracts.table_of_sines.ended sines.table_of_sines.Reads.Asked sines.table_of_sines.Reads.Learnt
 table_of_sines = answers (λ κs a v w. refl)

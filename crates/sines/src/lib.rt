@@ -1,4 +1,6 @@
 // The table of 4,501 sines. What the crates above do with it is defined and proved in specs/.
+#![tactic(auto)]
+
 ghost use Rattle.std.specs.Prelude.{◌≡◌};
 ghost use Rattle.sines.specs.Table.{sines};
 

@@ -1,5 +1,7 @@
 // Standard input and output for the programs: a route that is read, and the pieces of what is printed. No contract can say what
 // is read or printed: that of the reading speaks of some text, and those of the printing say nothing.
+#![tactic(auto)]
+
 ghost use Rattle.std.specs.Prelude.{length};
 ghost use Rattle.libc.specs.Io.{Moved};
 ghost use Rattle.streams.specs.Input.{Came};

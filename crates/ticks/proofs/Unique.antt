@@ -2,28 +2,29 @@
 -- Assumes nothing.
 use mathlib.Core.Path.{refl}
 use Rattle.refusals.specs.One.{One, answers}
+use Rattle.ticks.specs.contracts as contracts
 use Rattle.ticks.proofs as ticks
 
-pub is_latitude : One ticks.is_latitude.ended ticks.is_latitude.Reads.Asked ticks.is_latitude.Reads.Learnt
+pub is_latitude : One contracts.is_latitude.ended ticks.is_latitude.Reads.Asked ticks.is_latitude.Reads.Learnt
 is_latitude = answers (λ κs a v w. refl)
 
-pub is_longitude : One ticks.is_longitude.ended ticks.is_longitude.Reads.Asked ticks.is_longitude.Reads.Learnt
+pub is_longitude : One contracts.is_longitude.ended ticks.is_longitude.Reads.Asked ticks.is_longitude.Reads.Learnt
 is_longitude = answers (λ κs a v w. refl)
 
-pub is_angle : One ticks.is_angle.ended ticks.is_angle.Reads.Asked ticks.is_angle.Reads.Learnt
+pub is_angle : One contracts.is_angle.ended ticks.is_angle.Reads.Asked ticks.is_angle.Reads.Learnt
 is_angle = answers (λ κs a v w. refl)
 
-pub into_turn : One ticks.into_turn.ended ticks.into_turn.Reads.Asked ticks.into_turn.Reads.Learnt
+pub into_turn : One contracts.into_turn.ended ticks.into_turn.Reads.Asked ticks.into_turn.Reads.Learnt
 into_turn = answers (λ κs a v w. refl)
 
-pub offset : One ticks.offset.ended ticks.offset.Reads.Asked ticks.offset.Reads.Learnt
+pub offset : One contracts.offset.ended ticks.offset.Reads.Asked ticks.offset.Reads.Learnt
 offset = answers (λ κs a v w. refl)
 
-pub fold : One ticks.fold.ended ticks.fold.Reads.Asked ticks.fold.Reads.Learnt
+pub fold : One contracts.fold.ended ticks.fold.Reads.Asked ticks.fold.Reads.Learnt
 fold = answers (λ κs a v w. refl)
 
-pub point_refusal : One ticks.point_refusal.ended ticks.point_refusal.Reads.Asked ticks.point_refusal.Reads.Learnt
+pub point_refusal : One contracts.point_refusal.ended ticks.point_refusal.Reads.Asked ticks.point_refusal.Reads.Learnt
 point_refusal = answers (λ κs a v w. refl)
 
-pub sheet_refusal : One ticks.sheet_refusal.ended ticks.sheet_refusal.Reads.Asked ticks.sheet_refusal.Reads.Learnt
+pub sheet_refusal : One contracts.sheet_refusal.ended ticks.sheet_refusal.Reads.Asked ticks.sheet_refusal.Reads.Learnt
 sheet_refusal = answers (λ κs a v w. refl)

@@ -1,4 +1,6 @@
 // Angles in ticks: their ranges, the turn that brings a longitude into its own, the angle that has another's sine, and what refuses a point.
+#![tactic(auto)]
+
 ghost use Rattle.std.specs.Prelude.{◌≡◌};
 ghost use Rattle.ticks.specs.Ticks.{is_latitude, is_longitude, is_angle, turned, offset_of, folded, point_refusal, sheet_refusal};
 

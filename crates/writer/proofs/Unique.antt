@@ -4,10 +4,11 @@ use mathlib.Core.Path.{refl, ap}
 use mathlib.Core.List.{List}
 use Prim.Native.Nat.{ℕ}
 use Rattle.refusals.specs.One.{One, answers, leaves}
+use Rattle.writer.specs.contracts as contracts
 use Rattle.writer.proofs as writer
 
-pub size : One writer.size.ended writer.size.Reads.Asked writer.size.Reads.Learnt
+pub size : One contracts.size.ended writer.size.Reads.Asked writer.size.Reads.Learnt
 size = answers (λ κs a v w. refl)
 
-pub write : One writer.write.ended writer.write.Reads.Asked writer.write.Reads.Learnt
+pub write : One contracts.write.ended writer.write.Reads.Asked writer.write.Reads.Learnt
 write = leaves (λ κs a v w p. ap (λ (l : List ℕ). (tt, (tt, (tt, (l, (tt, tt)))))) p)

@@ -1,4 +1,6 @@
 // A route's text: its length, and its writing into a lent output from a given place onward, or what refuses it.
+#![tactic(auto)]
+
 ghost use Rattle.std.specs.Prelude.{◌≡◌, ◌-◌};
 ghost use Rattle.numerals.specs.Output.{writing_of, output_of};
 ghost use Rattle.writer.specs.RouteText.{route_text, target_refusal, text_refusal};
