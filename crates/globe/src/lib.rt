@@ -32,41 +32,41 @@ pub const DEGREE_LENGTH: u64 = 111_194_927;
 // The greatest target, in millimetres.
 pub const MOST_TARGET: u64 = 999_999_000;
 
-#[derive(Drop)]
+#[derive(Clone, Copy)]
 pub enum Sine {
     Value(i64),
     Refused(u32),
 }
 
 // Where a point goes on a sheet: x, then y.
-#[derive(Drop)]
+#[derive(Clone, Copy)]
 pub enum Place {
     At(i64, i64),
     Refused(u32),
 }
 
 // Latitude, then longitude.
-#[derive(Drop)]
+#[derive(Clone, Copy)]
 pub enum Point {
     At(i32, i32),
     Refused(u32),
 }
 
-#[derive(Drop)]
+#[derive(Clone, Copy)]
 pub enum Length {
     Millimetres(u64),
     Refused(u32),
 }
 
 // A course in ticks east of north, from 0 up to but not including a full turn: 32 bits hold it only without a sign.
-#[derive(Drop)]
+#[derive(Clone, Copy)]
 pub enum Direction {
     Ticks(u32),
     Refused(u32),
 }
 
 // Whether a target is met, with the number of points that were looked at.
-#[derive(Drop)]
+#[derive(Clone, Copy)]
 pub enum Met {
     Yes(u32),
     No(u32),
@@ -75,14 +75,14 @@ pub enum Met {
 
 // Each answer in the paper's own numbers: the refusal, 0 where there is none, and the values, 0 beside a refusal. This is what goes out to C.
 #[repr(C)]
-#[derive(Drop)]
+#[derive(Clone, Copy)]
 pub struct SineOut {
     pub refusal: u32,
     pub value: i64,
 }
 
 #[repr(C)]
-#[derive(Drop)]
+#[derive(Clone, Copy)]
 pub struct PlaceOut {
     pub refusal: u32,
     pub x: i64,
@@ -90,7 +90,7 @@ pub struct PlaceOut {
 }
 
 #[repr(C)]
-#[derive(Drop)]
+#[derive(Clone, Copy)]
 pub struct PointOut {
     pub refusal: u32,
     pub latitude: i32,
@@ -98,14 +98,14 @@ pub struct PointOut {
 }
 
 #[repr(C)]
-#[derive(Drop)]
+#[derive(Clone, Copy)]
 pub struct LengthOut {
     pub refusal: u32,
     pub millimetres: u64,
 }
 
 #[repr(C)]
-#[derive(Drop)]
+#[derive(Clone, Copy)]
 pub struct DirectionOut {
     pub refusal: u32,
     pub ticks: u32,
@@ -113,7 +113,7 @@ pub struct DirectionOut {
 
 // met: 1 yes, 0 no.
 #[repr(C)]
-#[derive(Drop)]
+#[derive(Clone, Copy)]
 pub struct MetOut {
     pub refusal: u32,
     pub met: u32,

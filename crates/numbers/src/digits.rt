@@ -9,14 +9,14 @@ use crate::{Kind, Mark};
 // The most digits before the mark.
 const WHOLES: usize = 3;
 
-#[derive(Drop)]
+#[derive(Clone, Copy)]
 pub(crate) enum Amount {
     Value(u64),
     Not,
 }
 
 // How many digits were read, and what they make.
-#[derive(Drop)]
+#[derive(Clone, Copy)]
 pub(crate) struct Digits {
     pub count: usize,
     pub value: u64,

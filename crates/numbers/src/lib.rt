@@ -14,14 +14,14 @@ use refusals::{LATITUDE, LONGITUDE, MARK, NUMBER};
 use ticks::{is_latitude, is_longitude};
 
 // The decimal mark that line 1 names.
-#[derive(Drop)]
+#[derive(Clone, Copy)]
 pub enum Mark {
     Point,
     Comma,
 }
 
 // What a field says, in degrees or in kilometres.
-#[derive(Drop)]
+#[derive(Clone, Copy)]
 pub enum Kind {
     Latitude,
     Longitude,
@@ -29,7 +29,7 @@ pub enum Kind {
 }
 
 // In units of the last decimal that its kind allows: ticks, or a target's metres.
-#[derive(Drop)]
+#[derive(Clone, Copy)]
 pub enum Number {
     Value(i64),
     Refused(u32),

@@ -16,14 +16,14 @@ const FIRST: u64 = 1_000_000;
 const MORE: u64 = 10_000_000;
 
 // How many digits are written, the first ones of `MOST` that make the value.
-#[derive(Drop)]
+#[derive(Clone, Copy)]
 pub(crate) struct Digits {
     pub count: usize,
     pub value: u64,
 }
 
 // What stands before the mark and after it.
-#[derive(Drop)]
+#[derive(Clone, Copy)]
 pub(crate) struct Parts {
     pub minus: bool,
     pub whole: Digits,

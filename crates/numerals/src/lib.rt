@@ -13,7 +13,7 @@ use numbers::{Kind, Mark};
 use refusals::OUTPUT;
 
 // How many bytes a text has, or why it is refused.
-#[derive(Drop)]
+#[derive(Clone, Copy)]
 pub enum Writing {
     Bytes(usize),
     Refused(u32),
@@ -21,7 +21,7 @@ pub enum Writing {
 
 // A writing in the paper's own numbers, as it goes out to C: 0 beside a refusal.
 #[repr(C)]
-#[derive(Drop)]
+#[derive(Clone, Copy)]
 pub struct WritingOut {
     pub refusal: u32,
     pub bytes: u64,

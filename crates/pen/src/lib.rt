@@ -14,7 +14,7 @@ use refusals::{DIVISOR, WINDOW};
 const MOST_A_PIXEL: u32 = 1_000_000;
 
 // The edges, in millimetres on the sheet. Infinite ones are allowed.
-#[derive(Drop)]
+#[derive(Clone, Copy)]
 pub struct Window {
     pub left: f64,
     pub right: f64,
@@ -22,25 +22,25 @@ pub struct Window {
     pub top: f64,
 }
 
-#[derive(Drop)]
+#[derive(Clone, Copy)]
 pub enum Stroke {
     Outside,
     Move(f64, f64),
     Line(f64, f64),
 }
 
-#[derive(Drop)]
+#[derive(Clone, Copy)]
 pub enum Answer {
     Drawn(Stroke),
     Refused(u32),
 }
 
-#[derive(Drop)]
+#[derive(Clone, Copy)]
 pub struct Pen {
     pub down: bool,
 }
 
-#[derive(Drop)]
+#[derive(Clone, Copy)]
 pub struct Step {
     pub answer: Answer,
     pub next: Pen,
@@ -49,7 +49,7 @@ pub struct Step {
 // A step in the paper's numbers, as it goes out at the door for C. stroke: 0 outside, 1 move, 2 line. pen: 0 up, 1 down; beside a refusal
 // the number that came in.
 #[repr(C)]
-#[derive(Drop)]
+#[derive(Clone, Copy)]
 pub struct StepOut {
     pub refusal: u32,
     pub stroke: u32,

@@ -10,7 +10,7 @@ pub const MOST_PAIRS: usize = 10;
 
 // A pair of digits, the digit of the root that is found for it, and what is left of all digits brought down so far.
 #[repr(C)]
-#[derive(Drop)]
+#[derive(Clone, Copy)]
 pub struct Step {
     pub pair: u64,
     pub digit: u64,
@@ -19,7 +19,7 @@ pub struct Step {
 
 // A root and the steps that lead to it; behind the last there are zeros.
 #[repr(C)]
-#[derive(Drop)]
+#[derive(Clone, Copy)]
 pub struct Working {
     pub root: u64,
     pub count: u64,

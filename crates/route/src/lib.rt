@@ -14,20 +14,20 @@ use numbers::pieces::{LF, equal, find};
 use points::MOST_NUMBERS;
 use refusals::{HEADER, TEXT};
 
-#[derive(Drop)]
+#[derive(Clone, Copy)]
 pub(crate) enum Header {
     Names(Mark),
     Unknown,
 }
 
-#[derive(Drop)]
+#[derive(Clone, Copy)]
 pub enum Target {
     None,
     Millimetres(u64),
 }
 
 // A refusal comes with its number and line.
-#[derive(Drop)]
+#[derive(Clone, Copy)]
 pub enum Reading {
     Route {
         points: u32,
@@ -39,7 +39,7 @@ pub enum Reading {
 
 // A reading in the paper's own numbers, as it goes out to C: 0 in every value beside a refusal, has_target 1 or 0.
 #[repr(C)]
-#[derive(Drop)]
+#[derive(Clone, Copy)]
 pub struct ReadingOut {
     pub refusal: u32,
     pub line: u32,

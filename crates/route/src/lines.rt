@@ -13,7 +13,7 @@ use refusals::{LINE, ORDER, POINTS};
 use signed::size64;
 
 // What a line is read as.
-#[derive(Drop)]
+#[derive(Clone, Copy)]
 pub(crate) enum Line {
     Target(u64),
     Point(i32, i32),
@@ -22,7 +22,7 @@ pub(crate) enum Line {
 }
 
 // What the lines so far leave for the next one; `before` is the first byte of the line before, which is `r` of line 1.
-#[derive(Drop)]
+#[derive(Clone, Copy)]
 pub(crate) struct State {
     pub before: u8,
     pub points: u32,

@@ -18,7 +18,7 @@ use points::{NUMBERS, put};
 use refusals::{LINE, ORDER, ROOM};
 
 // What the lines leave, or the refusal and its line.
-#[derive(Drop)]
+#[derive(Clone, Copy)]
 pub(crate) enum Judged {
     Accepted(State),
     Refused(u32, u32),

@@ -10,7 +10,7 @@ use libc::{STDIN_FILENO, STDOUT_FILENO};
 use route::{MOST_BYTES, Reading};
 
 // What became of standard input: it was read, or it cannot be.
-#[derive(Drop)]
+#[derive(Clone, Copy)]
 pub enum Input {
     Read(Reading),
     Failed,

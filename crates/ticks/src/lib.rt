@@ -49,6 +49,7 @@ pub fn into_turn(d: i64) -> i64
 }
 
 // The difference does not fit 32 bits before it is turned.
+#[tactic(auto, unfolding(crate::specs::Ticks::offset_of))]
 pub fn offset(longitude: i32, meridian: i32) -> i64
     ensures { result ≡ offset_of longitude meridian }
 {
@@ -56,6 +57,7 @@ pub fn offset(longitude: i32, meridian: i32) -> i64
 }
 
 // The angle from -90 to 90 degrees that has the sine of an angle from -180 to 180: beyond 90, 180 less the angle.
+#[tactic(auto, unfolding(crate::specs::Ticks::folded))]
 pub fn fold(angle: i64) -> i64
     ensures { result ≡ folded angle }
 {
@@ -69,6 +71,7 @@ pub fn fold(angle: i64) -> i64
 }
 
 // 0 where the point is accepted.
+#[tactic(auto, unfolding(crate::specs::Ticks::point_refusal))]
 pub fn point_refusal(latitude: i32, longitude: i32) -> u32
     ensures { result ≡ point_refusal latitude longitude }
 {
@@ -82,6 +85,7 @@ pub fn point_refusal(latitude: i32, longitude: i32) -> u32
 }
 
 // 0 where the point has a place on a sheet with this central meridian.
+#[tactic(auto, unfolding(crate::specs::Ticks::sheet_refusal))]
 pub fn sheet_refusal(latitude: i32, longitude: i32, meridian: i32) -> u32
     ensures { result ≡ sheet_refusal latitude longitude meridian }
 {
