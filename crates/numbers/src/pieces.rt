@@ -55,6 +55,7 @@ pub fn find(s: &[u8], b: u8) -> usize
 }
 
 // `b` stands anywhere.
+#[tactic(auto, using(crate::specs::PieceLaws::holds_index))]
 pub fn has(s: &[u8], b: u8) -> bool
     ensures { result ≡ holds b s.now }
 {
@@ -72,6 +73,7 @@ pub(crate) fn starts(s: &[u8], b: u8) -> bool
 }
 
 // The one byte is `b`.
+#[tactic(auto, using(crate::specs::PieceLaws::byte_one, crate::specs::PieceLaws::byte_other))]
 pub fn is_byte(s: &[u8], b: u8) -> bool
     ensures { result ≡ is_byte b s.now }
 {
@@ -82,6 +84,7 @@ pub fn is_byte(s: &[u8], b: u8) -> bool
 }
 
 // Byte by byte.
+#[tactic(auto, using(crate::specs::PieceLaws::same_next, crate::specs::PieceLaws::same_stop, crate::specs::PieceLaws::same_end, crate::specs::PieceLaws::same_long))]
 pub fn equal(a: &[u8], b: &[u8]) -> bool
     ensures { result ≡ same a.now b.now }
 {

@@ -54,6 +54,7 @@ pub const MOST_BYTES: usize = 60_000;
 // Millimetres in a metre: a target is in kilometres, its third decimal a metre.
 pub const METRE: u64 = 1_000;
 
+#[tactic(auto, unfolding(crate::specs::WalkLaws::header_of))]
 fn read_header(line: &[u8]) -> Header
     ensures { result ≡ header_of line.now }
 {
@@ -66,6 +67,7 @@ fn read_header(line: &[u8]) -> Header
     Header::Unknown
 }
 
+#[tactic(auto, unfolding(crate::specs::Route::reading_of, crate::specs::Route::buffer_of))]
 fn read_text(text: &[u8], own: &mut [i32], lent: &mut [i32]) -> Reading
     requires { numbers * most_points ≤ length own.old }
     ensures answer { result ≡ reading_of text.now (length lent.old) }

@@ -39,6 +39,7 @@ fn refusal_of(n: Number) -> u32
     }
 }
 
+#[tactic(auto, unfolding(crate::specs::Line::gap_of))]
 fn gap(kind: &[u8], before: u8) -> Line
     ensures { result ≡ gap_of before kind.now }
 {
@@ -51,6 +52,7 @@ fn gap(kind: &[u8], before: u8) -> Line
     Line::Gap
 }
 
+#[tactic(auto, unfolding(crate::specs::Line::target_of))]
 fn target(kind: &[u8], field: &[u8], mark: Mark, before: u8) -> Line
     ensures { result ≡ target_of mark before kind.now field.now }
 {
@@ -68,6 +70,7 @@ fn target(kind: &[u8], field: &[u8], mark: Mark, before: u8) -> Line
     Line::Target(METRE * size64(metres))
 }
 
+#[tactic(auto, unfolding(crate::specs::Line::point_of))]
 fn point(kind: &[u8], first: &[u8], second: &[u8], mark: Mark, points: u32) -> Line
     ensures { result ≡ point_of mark points kind.now first.now second.now }
 {

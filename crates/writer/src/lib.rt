@@ -20,6 +20,7 @@ use route::{METRE, Target};
 pub const MOST_WRITTEN: usize = 29_020;
 
 // 0 where the target is accepted.
+#[tactic(auto, unfolding(crate::specs::RouteText::target_refusal))]
 fn target_refusal(target: Target) -> u32
     ensures { result ≡ target_refusal target }
 {

@@ -1,70 +1,41 @@
--- `leading` meets its contract. The loop's invariant: with the digits that stand first in what is left, `i` counts and `value` makes what the
--- whole does, and there is room for as many digits as may still come. The measure is what is left.
--- Assumes nothing.
-use mathlib.Core.Path.{◌≡◌, sym, ap, ◌∙◌}
-use mathlib.Core.Bool.{true, false}
-use mathlib.Core.List.{List, []}
-use Prim.Native.Nat.{ℕ, suc, ◌+◌, ◌-◌, ◌*◌, ◌^◌, ◌≤◌, ◌<◌}
+use Rattle.std.proofs.Common.{◌≡◌, ℕ, suc, ◌+◌, ◌-◌, ◌*◌, ◌^◌, ◌≤◌, ◌<◌, ◌&&◌, true, false, ltb, List, [], length, drop, get_or, sym, ap, ◌∙◌, lit<, arith, ltb-true}
 use native.Mathlib.Nat.{add-zero, mul-le-mul_left, mul-le-mul_right, one-le-pow, pow-suc}
-use native.Mathlib.Omega.{arith}
-use borrow.Author.Tests.{ltb-true}
-use lib.Dec.{lit<, ltb}
-use lib.ListN.{length, drop, get_or}
 use Rattle.refusals.specs.Tests.{and_true}
-use Rattle.numbers.specs.DigitLaws.{most_digits, is_digit, value_from, leading, digit_range, leading_next, leading_stop, leading_done}
+use Rattle.numbers.specs.DigitLaws.{most_digits, is_digit, leading, digit_range, leading_next, leading_stop}
 use Rattle.numbers.proofs.digits.leading.Goals as goal
-use Rattle.numbers.proofs.digits.leading.Goals.{At-loop-i, Else-not-is_digit, In-loop-i}
+use Rattle.numbers.proofs.digits.leading.Goals.{Else-not-is_digit}
 
-abbrev s : At-loop-i → List ℕ
-s c = c.args.s.now
+-- the loop's test holds
+module _ (most : ℕ) (s : List ℕ) (i : ℕ) (t : ltb i most && ltb i (length s) ≡ true) where
+  inside : (i < most) × (i < length s)
+  inside = let u = and_true (ltb i most) (ltb i (length s)) t in (ltb-true _ _ u.0, ltb-true _ _ u.1)
 
-abbrev most : At-loop-i → ℕ
-most c = c.args.most
+  -- there is room for one more digit
+  module _ (v : ℕ) (room : (v + 1) * 10 ^ (most - i) ≤ 10 ^ most_digits) where
+    room_for : (v + 1) * (10 * 10 ^ (most - (i + 1))) ≤ 10 ^ most_digits
+    room_for =
+        let z : most - i ≡ suc (most - (i + 1)) = omega (arith, inside.0) in
+        let h : (v + 1) * 10 ^ suc (most - (i + 1)) ≤ 10 ^ most_digits = rw z at room in
+        omega (arith, rw pow-suc at h)
 
--- what the loop's test says
-inside : (c : In-loop-i) → let i = c.loop-i.i in (i < most c.before) × (i < length (s c.before))
-inside c =
-    let i = c.loop-i.i in
-    let t = and_true (ltb i (most c.before)) (ltb i (length (s c.before))) c.loop-i-test.true in
-    (ltb-true _ _ t.0, ltb-true _ _ t.1)
+    ten_times : (v + 1) * 10 ≤ 10 ^ most_digits
+    ten_times = omega (arith, room_for, mul-le-mul_left ((v + 1) * 10) (one-le-pow (most - (i + 1)) 10 (lit< tt)))
 
--- nothing more is read
-module _ (c : At-loop-i) (e : leading (most c - c.loop-i.i) (drop c.loop-i.i (s c)) ≡ []) where
-  done : (c.loop-i.i ≡ length (leading (most c) (s c))) × (c.loop-i.value ≡ value_from c.args.n (leading (most c) (s c)))
-  done = (sym (add-zero _) ∙ rw e at c.loop-i.invariant.0, rw e at c.loop-i.invariant.1)
+digit : (c : Else-not-is_digit) → is_digit (get_or c.args.s.now c.loop-i.i 0) ≡ true
+digit c = sym c.is_digit.ensures ∙ c.if-not-is_digit.false
 
--- a digit was read, and there is room for it
-module _ (c : Else-not-is_digit) where
-  abbrev at : At-loop-i
-  at = c.before.before.before.before
-
-  abbrev b : ℕ
-  b = get_or (s at) at.loop-i.i 0
-
-  abbrev more : ℕ
-  more = 10 ^ (most at - (at.loop-i.i + 1))
-
-  digit : is_digit b ≡ true
-  digit = sym c.is_digit.ensures ∙ c.if-not-is_digit.false
-
-  room : (at.loop-i.value + 1) * (10 * more) ≤ 10 ^ most_digits
-  room =
-      let i = at.loop-i.i in
-      let z : most at - i ≡ suc (most at - (i + 1)) = omega (arith, (inside c.before.before.before).0) in
-      let h : (at.loop-i.value + 1) * 10 ^ suc (most at - (i + 1)) ≤ 10 ^ most_digits = rw z at at.loop-i.inv.2 in
-      omega (arith, rw pow-suc at h)
-
-  fits : (48 ≤ b) × (b ≤ 57) × ((at.loop-i.value + 1) * 10 ≤ 10 ^ most_digits)
-  fits =
-      let one = mul-le-mul_left ((at.loop-i.value + 1) * 10) (one-le-pow (most at - (at.loop-i.i + 1)) 10 (lit< tt)) in
-      ((digit_range b digit).0, (digit_range b digit).1, omega (arith, room, one))
+fits : (c : Else-not-is_digit) → let b = get_or c.args.s.now c.loop-i.i 0 in (48 ≤ b) × (b ≤ 57) × ((c.loop-i.value + 1) * 10 ≤ 10 ^ most_digits)
+fits c =
+    let d = digit_range (get_or c.args.s.now c.loop-i.i 0) (digit c) in
+    (d.0, d.1, ten_times c.args.most c.args.s.now c.loop-i.i c.loop-i-test.true c.loop-i.value c.loop-i.invariant.2)
 
 pub returns-then-not-is_digit : goal.returns-then-not-is_digit
 returns-then-not-is_digit c =
-    let at = c.before.before.before.before in
-    let in-s = inside c.before.before.before in
-    let no : is_digit (get_or (s at) at.loop-i.i 0) ≡ false = sym c.is_digit.ensures ∙ c.if-not-is_digit.true in
-    done at (leading_stop (most at) (s at) at.loop-i.i in-s.0 in-s.1 no)
+    let m = c.args.most in
+    let s = c.args.s.now in
+    let k = inside m s c.loop-i.i c.loop-i-test.true in
+    let e = leading_stop m s c.loop-i.i k.0 k.1 (sym c.is_digit.ensures ∙ c.if-not-is_digit.true) in
+    record { many = sym (add-zero _) ∙ rw e at c.loop-i.invariant.0; read = rw e at c.loop-i.invariant.1 }
 
 pub overflow_mul-value : goal.overflow_mul-value
 overflow_mul-value c = omega (arith, fits c)
@@ -74,14 +45,14 @@ overflow_add-value c = omega (arith, fits c)
 
 pub loop-i-preserved : goal.loop-i-preserved
 loop-i-preserved c =
-    let a = at c in
-    let in-s = inside c.before.before.before in
-    let next = leading_next (most a) (s a) a.loop-i.i in-s.0 in-s.1 (digit c) in
-    let grown : a.loop-i.value * 10 + (b c - 48) + 1 ≤ (a.loop-i.value + 1) * 10 = omega (arith, fits c) in (
-      omega (arith, ap length next, a.loop-i.inv.0),
-      rw next at a.loop-i.inv.1,
-      omega (arith, room c, mul-le-mul_right (more c) grown),
+    let m = c.args.most in
+    let s = c.args.s.now in
+    let i = c.loop-i.i in
+    let v = c.loop-i.value in
+    let k = inside m s i c.loop-i-test.true in
+    let next = leading_next m s i k.0 k.1 (digit c) in
+    let grown : v * 10 + (get_or s i 0 - 48) + 1 ≤ (v + 1) * 10 = omega (arith, fits c) in (
+      omega (arith, ap length next, c.loop-i.invariant.0),
+      rw next at c.loop-i.invariant.1,
+      omega (arith, room_for m s i c.loop-i-test.true v c.loop-i.invariant.2, mul-le-mul_right (10 ^ (m - (i + 1))) grown),
     )
-
-pub returns : goal.returns
-returns c = done c.before (leading_done (most c.before) (s c.before) c.loop-i.i c.loop-i-test.false)
