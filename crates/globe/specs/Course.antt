@@ -1,9 +1,9 @@
 -- Which way to set off: (5-4b) of the manual in whole numbers.
 -- Assumes nothing.
-use Rattle.std.specs.Prelude.{Bool, true, false, ◌&&◌, ℕ, ◌+◌, ◌-◌, ◌%◌, ℤ, pos, nat_abs, ◌-ℤ◌, ◌*ℤ◌}
+use Rattle.std.specs.Prelude.{Bool, true, false, ◌&&◌, ℕ, ◌+◌, ◌-◌, ◌%◌, ℤ, pos, nat_abs, ◌-ℤ◌, ◌*ℤ◌, if◌then◌else◌}
 use Rattle.std.specs.Int.Signed.{quot_z, lt_z}
 use Rattle.refusals.specs.Refusal.{COURSE}
-use Rattle.refusals.specs.Choice.{if◌then◌else◌, answered}
+use Rattle.refusals.specs.Choice.{answered}
 use Rattle.signed.specs.Tests.{eq_z}
 use Rattle.sines.specs.Sine.{quarter, short_unit}
 use Rattle.sines.specs.Slope.{slope_of}

@@ -1,10 +1,10 @@
 -- What is promised of a course, in the paper's own numbers.
 -- Assumes nothing.
-use Rattle.std.specs.Prelude.{◌≡◌, refl, ◌↔◌, Bool, true, false, ◌&&◌, ℕ, zero, suc, ◌+◌, ◌-◌, ◌*◌, ◌/◌, ◌%◌, ◌≤◌, ◌<◌, min, ℤ, pos, negsuc, neg_ℤ, nat_abs, ◌-ℤ◌, ◌*ℤ◌}
+use Rattle.std.specs.Prelude.{◌≡◌, refl, ◌↔◌, Bool, true, false, ◌&&◌, ℕ, zero, suc, ◌+◌, ◌-◌, ◌*◌, ◌/◌, ◌%◌, ◌≤◌, ◌<◌, min, ℤ, pos, negsuc, neg_ℤ, nat_abs, ◌-ℤ◌, ◌*ℤ◌, if◌then◌else◌}
 use Rattle.std.proofs.Common.{sym, ap, ap₂, ◌∙◌, arith}
 use Rattle.std.specs.Int.Signed.{lt_z}
 use Rattle.refusals.specs.Refusal.{COURSE}
-use Rattle.refusals.specs.Choice.{if◌then◌else◌, answered}
+use Rattle.refusals.specs.Choice.{answered}
 use Rattle.refusals.specs.Tests.{by_test, clash, and_true, true_and}
 use Rattle.signed.specs.Sides.{above, below, size_neg}
 use Rattle.signed.specs.Sign.{sign_as}

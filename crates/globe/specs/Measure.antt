@@ -1,7 +1,7 @@
 -- The length of a point buffer.
 -- Assumes nothing.
-use Rattle.std.specs.Prelude.{ℕ, zero, suc, ◌+◌, ◌-◌, List, ℤ, pos}
-use Rattle.refusals.specs.Choice.{if◌then◌else◌, answered}
+use Rattle.std.specs.Prelude.{ℕ, zero, suc, ◌+◌, ◌-◌, List, ℤ, pos, if◌then◌else◌}
+use Rattle.refusals.specs.Choice.{answered}
 use Rattle.signed.specs.Tests.{eq_z}
 use Rattle.points.specs.Points.{latitude_at, longitude_at, third_at, count, buffer_refusal}
 use Rattle.globe.specs.declared.Length.{Length}

@@ -1,10 +1,9 @@
 -- How long a point buffer is at most, that its beginnings never fall in length, that one which is accepted is measured, and so is a beginning of it, and what a further point adds.
 -- Assumes nothing.
-use Rattle.std.specs.Prelude.{◌≡◌, refl, Bool, true, false, List, ◌++◌, ℕ, zero, suc, ◌+◌, ◌-◌, ◌*◌, ◌≤◌, ◌<◌, ℤ, pos, length, take, drop, get_or}
+use Rattle.std.specs.Prelude.{◌≡◌, refl, Bool, true, false, List, ◌++◌, ℕ, zero, suc, ◌+◌, ◌-◌, ◌*◌, ◌≤◌, ◌<◌, ℤ, pos, length, take, drop, get_or, if◌then◌else◌}
 use Rattle.std.proofs.Common.{sym, ap, ◌∙◌, add-zero, le_refl, take-append-drop, length-append, get_or-append-add}
 use native.Mathlib.Omega.{arith}
 use Rattle.std.proofs.Math.ListN.{get_or-append}
-use Rattle.refusals.specs.Choice.{if◌then◌else◌}
 use Rattle.signed.specs.Tests.{eq_z}
 use Rattle.points.specs.Points.{numbers, point_numbers, part_at, latitude_at, longitude_at, third_at, count, buffer_refusal}
 use Rattle.points.specs.PointLaws.{accepted, count_first, first_accepted}

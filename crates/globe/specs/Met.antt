@@ -1,8 +1,8 @@
 -- Whether a point buffer meets a target, and how many of its points are looked at.
 -- Assumes nothing.
-use Rattle.std.specs.Prelude.{Bool, List, ℕ, leb, ℤ}
+use Rattle.std.specs.Prelude.{Bool, List, ℕ, leb, ℤ, if◌then◌else◌}
 use Rattle.refusals.specs.Refusal.{TARGET}
-use Rattle.refusals.specs.Choice.{unless, if◌then◌else◌, first_of, answered}
+use Rattle.refusals.specs.Choice.{unless, first_of, answered}
 use Rattle.sines.specs.Least.{least}
 use Rattle.points.specs.Points.{count, buffer_refusal}
 use Rattle.globe.specs.declared.Met.{Met}

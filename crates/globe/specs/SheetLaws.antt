@@ -1,7 +1,7 @@
 -- Demand 3 proved once for every sheet whose latitudes come back from their heights, and so for both sheets; that two ways back which
 -- meet it agree; and the way back as it is worked out.
 -- Assumes nothing.
-use Rattle.std.specs.Prelude.{◌≡◌, ◌↔◌, ◌⊎◌, Bool, ℕ, zero, suc, ◌≤◌, ◌<◌, leb, ℤ, pos, negsuc, neg_ℤ, nat_abs, ◌+ℤ◌, ◌*ℤ◌}
+use Rattle.std.specs.Prelude.{◌≡◌, ◌↔◌, ◌⊎◌, Bool, ℕ, zero, suc, ◌≤◌, ◌<◌, leb, ℤ, pos, negsuc, neg_ℤ, nat_abs, ◌+ℤ◌, ◌*ℤ◌, if◌then◌else◌}
 use Rattle.std.proofs.Math.Path.{refl, sym, ap}
 use Rattle.std.proofs.Common.{subst, ◌∙◌, inl, inr, ⊎_elim, le_refl, arith}
 use Rattle.std.proofs.Math.Bool.{true, false}
@@ -26,7 +26,7 @@ use Rattle.globe.specs.declared.Point.{Point}
 use Rattle.globe.specs.declared.Point.TheVariants as Q
 use Rattle.globe.specs.declared.PointOut.{PointOut}
 use Rattle.refusals.specs.Refusal.{PLACE, MERIDIAN}
-use Rattle.refusals.specs.Choice.{unless, if◌then◌else◌, answered}
+use Rattle.refusals.specs.Choice.{unless, answered}
 use Rattle.refusals.specs.Tests.{and_true, true_and, and_yes, by_test, clash}
 use Rattle.ticks.specs.Ticks.{is_latitude, is_longitude, accepted, turned, offset_of, point_refusal, sheet_refusal}
 use Rattle.ticks.specs.TickLaws.{latitude_size, is_longitude_lem, offset_longitude, sum_longitude, turn_back, back_turn, no_offset, sheet_accepted}

@@ -1,9 +1,9 @@
 -- "A number is an optional minus, one to three digits, then nothing or the named mark with one to seven digits."
 -- Said once over the kind of field: how many digits may stand after the mark, whether a minus may stand first, and the range.
 -- Assumes nothing.
-use Rattle.std.specs.Prelude.{Bool, true, false, not, ◌&&◌, ◌||◌, List, [], ◌∷◌, ◌++◌, ℕ, suc, ◌+◌, ◌-◌, ◌*◌, ◌^◌, leb, ℤ, pos, neg_ℤ, length, take, drop}
+use Rattle.std.specs.Prelude.{Bool, true, false, not, ◌&&◌, ◌||◌, List, [], ◌∷◌, ◌++◌, ℕ, suc, ◌+◌, ◌-◌, ◌*◌, ◌^◌, leb, ℤ, pos, neg_ℤ, length, take, drop, if◌then◌else◌}
 use Rattle.refusals.specs.Refusal.{NUMBER, MARK, LATITUDE, LONGITUDE}
-use Rattle.refusals.specs.Choice.{unless, if◌then◌else◌}
+use Rattle.refusals.specs.Choice.{unless}
 use Rattle.ticks.specs.Ticks.{is_latitude, is_longitude}
 use Rattle.numbers.specs.declared.Mark.{Mark}
 use Rattle.numbers.specs.declared.Mark.TheVariants as M

@@ -1,6 +1,6 @@
 -- Laws of numbers: how large a number of its kind is, what a number is for each way out of its reading, and what one that was read tells.
 -- Assumes nothing.
-use Rattle.std.specs.Prelude.{◌≡◌, refl, Bool, not, ◌&&◌, ◌||◌, ◌⊎◌, ℤ, pos, negsuc, neg_ℤ, nat_abs, take, drop, get_or}
+use Rattle.std.specs.Prelude.{◌≡◌, refl, Bool, not, ◌&&◌, ◌||◌, ◌⊎◌, ℤ, pos, negsuc, neg_ℤ, nat_abs, take, drop, get_or, if◌then◌else◌}
 use Rattle.std.proofs.Math.Path.{sym}
 use Rattle.std.proofs.Common.{ap, subst, ◌∙◌, inl, inr, ⊎_elim, lt_of_lt_of_le, mul-le-mul_right, add-one, lit<, pow-add, take_all, length-take-le}
 use Rattle.std.proofs.Math.Bool.{true, false}
@@ -13,7 +13,7 @@ use Rattle.std.proofs.Math.Dec.{T, eqb}
 use Rattle.std.proofs.Math.ListN.{length, drop_of_length-le}
 use Rattle.std.proofs.Math.Seq.{take-length}
 use Rattle.refusals.specs.Refusal.{NUMBER, MARK, of_line}
-use Rattle.refusals.specs.Choice.{unless, if◌then◌else◌, answered}
+use Rattle.refusals.specs.Choice.{unless, answered}
 use Rattle.refusals.specs.Tests.{by_test, clash, and_true, and_no}
 use Rattle.signed.specs.SignLaws.{as_size}
 use Rattle.ticks.specs.Ticks.{is_latitude, is_longitude}

@@ -1,7 +1,6 @@
 -- "lines ended by LF, fields parted by tabs": the pieces of a text, and tests of a piece.
 -- Assumes nothing.
-use Rattle.std.specs.Prelude.{Bool, true, false, ◌&&◌, ◌||◌, List, [], ◌∷◌, ℕ, zero, suc, eqb}
-use Rattle.refusals.specs.Choice.{if◌then◌else◌}
+use Rattle.std.specs.Prelude.{Bool, true, false, ◌&&◌, ◌||◌, List, [], ◌∷◌, ℕ, zero, suc, eqb, if◌then◌else◌}
 
 abbrev pub LF : ℕ
 LF = 10

@@ -1,8 +1,7 @@
 -- Laws of a number as it is written: it is read, and what is read is so written.
 -- Assumes nothing.
-use Rattle.std.specs.Prelude.{◌≡◌, refl, Bool, true, false, List, [], ◌∷◌, ◌++◌, ℕ, suc, ◌+◌, ◌-◌, ◌*◌, ◌^◌, ◌≤◌, eqb, ℤ, pos, neg_ℤ, length, take, drop}
+use Rattle.std.specs.Prelude.{◌≡◌, refl, Bool, true, false, List, [], ◌∷◌, ◌++◌, ℕ, suc, ◌+◌, ◌-◌, ◌*◌, ◌^◌, ◌≤◌, eqb, ℤ, pos, neg_ℤ, length, take, drop, if◌then◌else◌}
 use Rattle.std.proofs.Common.{sym, ap, ap₂, ◌∙◌, append-nil, arith, le-leb, eq-eqb, ne_eqb, take_all, take_at}
-use Rattle.refusals.specs.Choice.{if◌then◌else◌}
 use Rattle.refusals.specs.Tests.{by_test, clash, and_true, and_no}
 use Rattle.numbers.specs.declared.Mark.{Mark}
 use Rattle.numbers.specs.declared.Kind.{Kind}

@@ -1,8 +1,7 @@
 -- The text of a value. "Each number is written one way: no leading zeros but a lone 0, no decimals that end in zero, no bare mark, no minus on zero."
 -- Said once over the kind of field and the mark.
 -- Assumes nothing.
-use Rattle.std.specs.Prelude.{Bool, true, false, ◌&&◌, List, [], ◌∷◌, ◌++◌, ℕ, zero, suc, ◌+◌, ◌/◌, ◌%◌, ◌^◌, leb, eqb, ℤ, pos, negsuc, nat_abs}
-use Rattle.refusals.specs.Choice.{if◌then◌else◌}
+use Rattle.std.specs.Prelude.{Bool, true, false, ◌&&◌, List, [], ◌∷◌, ◌++◌, ℕ, zero, suc, ◌+◌, ◌/◌, ◌%◌, ◌^◌, leb, eqb, ℤ, pos, negsuc, nat_abs, if◌then◌else◌}
 use Rattle.numbers.specs.declared.Mark.{Mark}
 use Rattle.numbers.specs.declared.Kind.{Kind}
 use Rattle.numbers.specs.Number.{MINUS, named_byte, places}

@@ -1,13 +1,12 @@
 -- Laws of a number that is written: it is read back as it was, how long it is, which bytes it does not hold, and that it alone keeps the rules.
 -- Assumes nothing.
-use Rattle.std.specs.Prelude.{◌≡◌, refl, Bool, leb, eqb, ℤ, pos, negsuc, neg_ℤ, nat_abs, length}
+use Rattle.std.specs.Prelude.{◌≡◌, refl, Bool, leb, eqb, ℤ, pos, negsuc, neg_ℤ, nat_abs, length, if◌then◌else◌}
 use Rattle.std.proofs.Common.{sym, ap, ◌∙◌, zero-mul, mul-le-mul, mul-le-mul_right, mod-eq_of_lt, div-add-mod', le-div_iff_mul-le, div-lt_iff_lt-mul, lt_of_lt_of_le, arith, lit<, length-append, pow-add, leb-true, leb-false, le-leb, eqb-true, ne_eqb}
 use Rattle.std.proofs.Math.Bool.{true, false}
 use mathlib.Core.List.{List, [], ◌∷◌, ◌++◌, append_assoc, nil≢cons, head-eq_of_cons-eq, tail-eq_of_cons-eq}
 use Prim.Native.Nat.{ℕ, zero, suc, ◌+◌, ◌-◌, ◌*◌, ◌/◌, ◌%◌, ◌^◌, ◌≤◌, ◌<◌}
 use Rattle.std.proofs.Math.Nat.{mul-add-div_right, div-eq_of_lt, mul-add-mod_self_right, one-le-pow, pow-le-pow_right}
 use Rattle.std.proofs.lemmas.Bool.{eqb-false}
-use Rattle.refusals.specs.Choice.{if◌then◌else◌}
 use Rattle.refusals.specs.Tests.{by_test, clash, and_true, true_and, or_false}
 use Rattle.signed.specs.Sides.{below, size_sides, one_side}
 use Rattle.ticks.specs.TickLaws.{latitude_size, longitude}

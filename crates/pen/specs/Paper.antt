@@ -1,9 +1,8 @@
 -- A step in the paper's own numbers: its refusal, 0 where there is none; its stroke, 0 outside, 1 move, 2 line; the two floats of a
 -- position; and the next pen, 0 up, 1 down. "A refusal gives zero in every value beside its number .. the pen step hands back the pen it got."
 -- Assumes nothing.
-use Rattle.std.specs.Prelude.{false, ℕ, zero, suc, Float, ℤ, pos}
+use Rattle.std.specs.Prelude.{false, ℕ, zero, suc, Float, ℤ, pos, if◌then◌else◌}
 use Rattle.std.specs.Float.{fin}
-use Rattle.refusals.specs.Choice.{if◌then◌else◌}
 use Rattle.pen.specs.declared.Window.{Window}
 use Rattle.pen.specs.declared.Pen.{Pen}
 use Rattle.pen.specs.declared.Step.{Step}

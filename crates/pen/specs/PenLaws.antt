@@ -1,10 +1,9 @@
 -- What a step answers, case by case, for callers that know the case.
 -- Assumes nothing.
-use Rattle.std.specs.Prelude.{◌≡◌, refl, Bool, true, false, ◌&&◌, ℕ, zero, suc, Float, ℤ, pos, ◌*ℤ◌}
+use Rattle.std.specs.Prelude.{◌≡◌, refl, Bool, true, false, ◌&&◌, ℕ, zero, suc, Float, ℤ, pos, ◌*ℤ◌, if◌then◌else◌}
 use Rattle.std.proofs.Math.Path.{ap}
 use Rattle.std.proofs.Common.{◌∙◌}
 use Rattle.signed.specs.Tests.{eq_z}
-use Rattle.refusals.specs.Choice.{if◌then◌else◌}
 use Rattle.refusals.specs.Refusal.{WINDOW, DIVISOR}
 use Rattle.refusals.specs.Tests.{by_test}
 use Rattle.ticks.specs.Ticks.{offset_of, sheet_refusal}

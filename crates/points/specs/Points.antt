@@ -1,9 +1,9 @@
 -- The point buffer: a route's points as numbers, and what refuses them.
 -- Assumes nothing.
-use Rattle.std.specs.Prelude.{ℕ, zero, suc, ◌+◌, ◌*◌, ◌/◌, ◌%◌, Bool, true, ◌&&◌, ◌||◌, List, [], ◌∷◌, leb, ltb, eqb, ℤ, pos, length, get_or}
+use Rattle.std.specs.Prelude.{ℕ, zero, suc, ◌+◌, ◌*◌, ◌/◌, ◌%◌, Bool, true, ◌&&◌, ◌||◌, List, [], ◌∷◌, leb, ltb, eqb, ℤ, pos, length, get_or, if◌then◌else◌}
 use Rattle.std.proofs.lemmas.List.Edits.{sets}
 use Rattle.refusals.specs.Refusal.{POINTS, BUFFER}
-use Rattle.refusals.specs.Choice.{unless, if◌then◌else◌, first_of}
+use Rattle.refusals.specs.Choice.{unless, first_of}
 use Rattle.signed.specs.Tests.{eq_z}
 use Rattle.ticks.specs.Ticks.{point_refusal}
 

@@ -7,11 +7,6 @@ abbrev pub unless : {A : Type 0} → Bool → A → A → A
 unless true r v = v
 unless false r v = r
 
-infix 5 if◌then◌else◌
-abbrev pub if◌then◌else◌ : {A : Type 0} → Bool → A → A → A
-if true then a else b = a
-if false then a else b = b
-
 -- the first of two refusals, 0 being none
 abbrev pub first_of : ℕ → ℕ → ℕ
 first_of zero b = b

@@ -1,10 +1,10 @@
 -- One line after line 1: what it is read as, judged by the lines before it, and what it leaves for the next.
 -- "in a line 3 (2 for line 1), 8, 9, then the fields from the left, each 5, 4, then 6 or 7"
 -- Assumes nothing.
-use Rattle.std.specs.Prelude.{List, [], ◌∷◌, ◌++◌, ℕ, ◌*◌, ltb, eqb, ℤ, pos, nat_abs}
+use Rattle.std.specs.Prelude.{List, [], ◌∷◌, ◌++◌, ℕ, ◌*◌, ltb, eqb, ℤ, pos, nat_abs, if◌then◌else◌}
 use Prim.Native.Char.{code}
 use Rattle.refusals.specs.Refusal.{LINE, ORDER, POINTS}
-use Rattle.refusals.specs.Choice.{unless, if◌then◌else◌}
+use Rattle.refusals.specs.Choice.{unless}
 use Rattle.points.specs.Points.{point_numbers, count, most_points}
 use Rattle.numbers.specs.declared.Mark.{Mark}
 use Rattle.numbers.specs.declared.Kind.TheVariants as K

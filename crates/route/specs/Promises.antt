@@ -1,11 +1,11 @@
 -- What the reader promises of every text and every buffer, in the paper's numbers; docs/PROMISES.md names these theorems.
 -- Assumes nothing.
-use Rattle.std.specs.Prelude.{◌≡◌, refl, ◌⊎◌, true, false, not, ◌||◌, List, [], ◌∷◌, ◌++◌, ℕ, ◌+◌, ◌*◌, ◌≤◌, ◌<◌, eqb, leb, ℤ, pos, nat_abs, length, take, drop, get_or}
+use Rattle.std.specs.Prelude.{◌≡◌, refl, ◌⊎◌, true, false, not, ◌||◌, List, [], ◌∷◌, ◌++◌, ℕ, ◌+◌, ◌*◌, ◌≤◌, ◌<◌, eqb, leb, ℤ, pos, nat_abs, length, take, drop, get_or, if◌then◌else◌}
 use Rattle.std.proofs.Common.{sym, ap, ◌∙◌, inl, inr, append_assoc, arith, eqb-true, eq-eqb, le-leb, length-append, length-drop, take_at, drop_at, get_or-append-add}
 use Prim.Native.Char.{code}
 use Rattle.std.proofs.lemmas.Bool.{lt-leb, not-true}
 use Rattle.refusals.specs.Refusal.{ROOM, of_line}
-use Rattle.refusals.specs.Choice.{unless, if◌then◌else◌}
+use Rattle.refusals.specs.Choice.{unless}
 use Rattle.refusals.specs.Tests.{and_true, by_test, clash}
 use Rattle.points.specs.Points.{numbers, count, point_numbers, latitude_at, longitude_at, third_at, buffer_refusal}
 use Rattle.globe.specs.declared.Length.TheVariants as G

@@ -1,10 +1,10 @@
 -- Laws of lines that were read: what they tell of the line before and of each other, how many points they leave, and where each of them stands.
 -- Assumes nothing.
-use Rattle.std.specs.Prelude.{◌≡◌, refl, true, false, ◌||◌, List, [], ◌∷◌, ◌++◌, ℕ, ◌+◌, ◌*◌, ◌≤◌, ◌<◌, eqb, leb, ℤ, pos, nat_abs, length}
+use Rattle.std.specs.Prelude.{◌≡◌, refl, true, false, ◌||◌, List, [], ◌∷◌, ◌++◌, ℕ, ◌+◌, ◌*◌, ◌≤◌, ◌<◌, eqb, leb, ℤ, pos, nat_abs, length, if◌then◌else◌}
 use Rattle.std.proofs.Common.{sym, ap, ◌∙◌, append_assoc, arith, eqb-true, eq-eqb, ne_eqb, le-leb, length-append}
 use Prim.Native.Char.{code}
 use Rattle.refusals.specs.Refusal.{ROOM}
-use Rattle.refusals.specs.Choice.{unless, if◌then◌else◌}
+use Rattle.refusals.specs.Choice.{unless}
 use Rattle.refusals.specs.Tests.{by_test, clash}
 use Rattle.points.specs.Points.{count, point_numbers}
 use Rattle.numbers.specs.declared.Mark.{Mark}

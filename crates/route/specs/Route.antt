@@ -1,10 +1,10 @@
 -- The route text: what the reader answers and what it leaves in the buffer, for every text and every buffer.
 -- "Reading: 1 first; then the first bad line from the top; .. after all lines a last `g`; then 10."
 -- Assumes nothing.
-use Rattle.std.specs.Prelude.{List, [], ◌∷◌, ◌++◌, ℕ, ◌+◌, ◌-◌, leb, eqb, ℤ, length, drop}
+use Rattle.std.specs.Prelude.{List, [], ◌∷◌, ◌++◌, ℕ, ◌+◌, ◌-◌, leb, eqb, ℤ, length, drop, if◌then◌else◌}
 use Prim.Native.Char.{code}
 use Rattle.refusals.specs.Refusal.{TEXT, HEADER, LINE, ORDER, ROOM}
-use Rattle.refusals.specs.Choice.{unless, if◌then◌else◌}
+use Rattle.refusals.specs.Choice.{unless}
 use Rattle.points.specs.Points.{count}
 use Rattle.globe.specs.Measure.{length_up_to}
 use Rattle.numbers.specs.declared.Mark.{Mark}

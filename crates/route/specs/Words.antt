@@ -1,8 +1,7 @@
 -- The words of the promises, apart from the walk: a text's lines, and what they are.
 -- Assumes nothing.
-use Rattle.std.specs.Prelude.{◌≡◌, ◌⊎◌, Bool, true, not, ◌&&◌, List, [], ◌∷◌, ◌++◌, ℕ, ◌+◌, ℤ, length, get_or}
+use Rattle.std.specs.Prelude.{◌≡◌, ◌⊎◌, Bool, true, not, ◌&&◌, List, [], ◌∷◌, ◌++◌, ℕ, ◌+◌, ℤ, length, get_or, if◌then◌else◌}
 use Prim.Native.Char.{code}
-use Rattle.refusals.specs.Choice.{if◌then◌else◌}
 use Rattle.numbers.specs.declared.Mark.{Mark}
 use Rattle.numbers.specs.declared.Mark.TheVariants as M
 use Rattle.numbers.specs.Pieces.{LF, TAB, split, holds, is_byte}

@@ -1,11 +1,10 @@
 -- What is promised of the ranges, of the offset, of the fold and of the refusals of a point, in the document's own numbers.
 -- Assumes nothing.
-use Rattle.std.specs.Prelude.{◌≡◌, refl, ◌↔◌, ◌⊎◌, Bool, true, false, ◌&&◌, ℕ, T, ℤ, pos, neg_ℤ, ◌+ℤ◌, ◌-ℤ◌, ◌≤ℤ◌, ◌<ℤ◌}
+use Rattle.std.specs.Prelude.{◌≡◌, refl, ◌↔◌, ◌⊎◌, Bool, true, false, ◌&&◌, ℕ, T, ℤ, pos, neg_ℤ, ◌+ℤ◌, ◌-ℤ◌, ◌≤ℤ◌, ◌<ℤ◌, if◌then◌else◌}
 use Rattle.std.proofs.Common.{sym, subst, ◌∙◌, inl, inr, arith}
 use Rattle.std.proofs.Math.Path.{ap}
 use Rattle.std.specs.Int.Signed.{lt_z, le_z}
 use Rattle.refusals.specs.Tests.{by_test, and_true, true_and}
-use Rattle.refusals.specs.Choice.{if◌then◌else◌}
 use Rattle.signed.specs.Sides.{above, below, same, add_sides, sub_sides}
 use Rattle.ticks.specs.Ticks.{half, full_turn, is_latitude, is_longitude, is_angle, folded, accepted, turned, offset_of, point_refusal, sheet_refusal}
 use Rattle.ticks.specs.TickLaws.{longitude, is_longitude_lem, Turned, turned_how, offset_longitude, no_offset, folded_latitude, folded_self, folded_mirror}

@@ -1,12 +1,11 @@
 -- What the ranges, the turn, the fold and the refusals of a point say, as facts that `omega` reads.
 -- Assumes nothing.
-use Rattle.std.specs.Prelude.{◌≡◌, refl, ◌⊎◌, Bool, true, false, ◌&&◌, ℕ, zero, suc, ◌+◌, ◌-◌, ◌*◌, ◌≤◌, ◌<◌, min, ℤ, pos, nat_abs, ◌+ℤ◌, ◌-ℤ◌, ◌*ℤ◌}
+use Rattle.std.specs.Prelude.{◌≡◌, refl, ◌⊎◌, Bool, true, false, ◌&&◌, ℕ, zero, suc, ◌+◌, ◌-◌, ◌*◌, ◌≤◌, ◌<◌, min, ℤ, pos, nat_abs, ◌+ℤ◌, ◌-ℤ◌, ◌*ℤ◌, if◌then◌else◌}
 use Rattle.std.proofs.Common.{sym, ◌∙◌, inl, inr, mul-le-mul, arith, SFits}
 use Rattle.std.proofs.Math.IntN.{neg_ℤ}
 use Rattle.std.specs.Int.Signed.{lt_z, le_z}
 use Rattle.std.specs.Int.{w32, w64}
 use Rattle.refusals.specs.Refusal.{LATITUDE, LONGITUDE, MERIDIAN}
-use Rattle.refusals.specs.Choice.{if◌then◌else◌}
 use Rattle.refusals.specs.Tests.{and_true, true_and, unless_none}
 use Rattle.sines.specs.Sine.{quarter, short_unit}
 use Rattle.signed.specs.Sides.{above, below, one_side, same, add_sides, sub_sides, neg_above, neg_below, mul_above, mul_below, size_sides}

@@ -1,11 +1,11 @@
 -- "An angle is a whole number of ticks; a tick is one ten-millionth of a degree." Ranges, the offset, the angle that has another's sine, and what
 -- refuses a point.
 -- Assumes nothing.
-use Rattle.std.specs.Prelude.{ℕ, Bool, ◌&&◌, ℤ, pos, neg_ℤ, ◌+ℤ◌, ◌-ℤ◌}
+use Rattle.std.specs.Prelude.{ℕ, Bool, ◌&&◌, ℤ, pos, neg_ℤ, ◌+ℤ◌, ◌-ℤ◌, if◌then◌else◌}
 use Rattle.std.specs.Int.Signed.{lt_z, le_z}
 use Rattle.sines.specs.Sine.{quarter}
 use Rattle.refusals.specs.Refusal.{LATITUDE, LONGITUDE, MERIDIAN}
-use Rattle.refusals.specs.Choice.{unless, if◌then◌else◌}
+use Rattle.refusals.specs.Choice.{unless}
 
 -- half a turn, and a full one
 abbrev pub half : ℕ

@@ -1,9 +1,9 @@
 -- The text of a route: from a point buffer, "an optional unsigned target in millimetres and a mark". And what refuses it.
 -- Assumes nothing.
-use Rattle.std.specs.Prelude.{◌&&◌, List, [], ◌∷◌, ◌++◌, ℕ, zero, suc, ◌/◌, ◌%◌, leb, eqb, ℤ, pos}
+use Rattle.std.specs.Prelude.{◌&&◌, List, [], ◌∷◌, ◌++◌, ℕ, zero, suc, ◌/◌, ◌%◌, leb, eqb, ℤ, pos, if◌then◌else◌}
 use Prim.Native.Char.{code}
 use Rattle.refusals.specs.Refusal.{TARGET}
-use Rattle.refusals.specs.Choice.{unless, if◌then◌else◌, first_of}
+use Rattle.refusals.specs.Choice.{unless, first_of}
 use Rattle.signed.specs.Tests.{eq_z}
 use Rattle.points.specs.Points.{latitude_at, longitude_at, third_at, count, buffer_refusal}
 use Rattle.numbers.specs.declared.Mark.{Mark}

@@ -1,5 +1,6 @@
 -- `bytes` meets its contract: a part that is left out adds nothing.
 -- Assumes nothing.
+use Rattle.std.specs.Prelude.{if◌then◌else◌}
 use mathlib.Core.Path.{◌≡◌, ◌∙◌}
 use mathlib.Core.Logic.{⊎_elim}
 use Prim.Native.Nat.{◌+◌, ◌≤◌}
@@ -7,7 +8,6 @@ use native.Mathlib.Omega.{arith}
 use borrow.Author.Rules.{rules}
 use borrow.Author.Tests.{ne_eqb}
 use lib.Dec.{eqb}
-use Rattle.refusals.specs.Choice.{if◌then◌else◌}
 use Rattle.numerals.specs.NumeralSteps.{parts_added}
 use Rattle.numerals.specs.declared.digits.Parts.{Parts}
 use Rattle.numerals.proofs.digits.bytes.Statement.{statement}
