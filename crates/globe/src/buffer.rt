@@ -12,6 +12,7 @@ use refusals::{TARGET, first_of};
 use sines::Entries;
 
 // The leg into point `i`, 0 where it is not counted.
+#[tactic(auto, using(signed::specs::Machine::bits_test, points::specs::PointLaws::point_of_lem, points::specs::PointLaws::leg_before, points::specs::PointLaws::latitude_read, points::specs::PointLaws::longitude_read), unfolding(crate::specs::Measure::leg_into))]
 fn leg_into(t: &Entries, points: &[i32], i: usize) -> u64
     requires t_value { t.now ≡ sines }
     requires points_value { buffer_refusal points.now ≡ 0 }
@@ -32,6 +33,7 @@ fn leg_into(t: &Entries, points: &[i32], i: usize) -> u64
 }
 
 // At most 1,000 legs, none longer than half a turn.
+#[tactic(auto, unfolding(crate::specs::Measure::length_up_to))]
 pub(crate) fn length_of(t: &Entries, points: &[i32]) -> u64
     requires t_value { t.now ≡ sines }
     requires points_value { buffer_refusal points.now ≡ 0 }
@@ -48,6 +50,7 @@ pub(crate) fn length_of(t: &Entries, points: &[i32]) -> u64
 }
 
 // The length of a whole point buffer, the table made once for all its legs.
+#[tactic(auto, unfolding(crate::specs::Measure::measure_of))]
 pub(crate) fn measure(t: &Entries, points: &[i32]) -> Length
     requires { t.now ≡ sines }
     ensures { result ≡ measure_of points.now }
@@ -60,6 +63,7 @@ pub(crate) fn measure(t: &Entries, points: &[i32]) -> Length
 }
 
 // From point to point until the sum of the legs reaches the target.
+#[tactic(auto, unfolding(crate::specs::Measure::length_up_to, crate::specs::Met::walked))]
 fn walk(t: &Entries, points: &[i32], target: u64) -> Met
     requires t_value { t.now ≡ sines }
     requires points_value { buffer_refusal points.now ≡ 0 }
@@ -80,6 +84,7 @@ fn walk(t: &Entries, points: &[i32], target: u64) -> Met
 }
 
 // Whether a whole point buffer meets a target. Everything that is refused is found before any leg is measured.
+#[tactic(auto, unfolding(crate::specs::Met::met_of))]
 pub(crate) fn target_met(t: &Entries, points: &[i32], target: u64) -> Met
     requires { t.now ≡ sines }
     ensures { result ≡ met_of points.now target }

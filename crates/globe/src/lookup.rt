@@ -26,6 +26,7 @@ pub(crate) const QUARTER_HALVES: u32 = 2 * QUARTER;
 
 pub(crate) const SHORTENING: u64 = 10_000;
 
+#[tactic(auto, unfolding(sines::specs::Table::entry))]
 pub(crate) fn entry(t: &Entries, k: usize) -> u64
     requires t_value { t.now ≡ sines }
     requires k_le_rows { k ≤ rows }
@@ -35,6 +36,7 @@ pub(crate) fn entry(t: &Entries, k: usize) -> u64
 }
 
 // f × (entry k+1 - entry k) is below 400,000 × 10^13, which fits.
+#[tactic(auto, using(sines::specs::Rules::growth, sines::specs::Rules::last, sines::specs::Rules::entry_top, sines::specs::SineLaws::long_sine_half_quarter), unfolding(sines::specs::Sine::sine_by, sines::specs::SineLaws::between))]
 pub(crate) fn long_sine_half_of(t: &Entries, a: u32) -> u64
     requires t_value { t.now ≡ sines }
     requires a_le_quarter_halves { a ≤ quarter_halves }
@@ -49,6 +51,7 @@ pub(crate) fn long_sine_half_of(t: &Entries, a: u32) -> u64
     low + (a % STEP_HALVES) as u64 * gap / STEP_HALVES as u64
 }
 
+#[tactic(auto, using(sines::specs::SineLaws::halves))]
 pub(crate) fn long_sine_of(t: &Entries, a: u32) -> u64
     requires t_value { t.now ≡ sines }
     requires a_le_quarter { a ≤ quarter }
@@ -65,6 +68,7 @@ pub(crate) fn short_sine_of(t: &Entries, a: u32) -> u64
     long_sine_of(t, a) / SHORTENING
 }
 
+#[tactic(auto, using(signed::specs::Machine::at64, signed::specs::SignLaws::as_fits, signed::specs::SignLaws::nearest_self, sines::specs::SineLaws::long_sine_top, ticks::specs::TickLaws::latitude_size))]
 pub(crate) fn signed_long_sine(t: &Entries, a: i32) -> i64
     requires t_value { t.now ≡ sines }
     requires a_value { is_latitude a ≡ true }
@@ -73,6 +77,7 @@ pub(crate) fn signed_long_sine(t: &Entries, a: i32) -> i64
     with_sign_of(a as i64, long_sine_of(t, size32(a)))
 }
 
+#[tactic(auto, unfolding(crate::specs::Angle::short_cosine))]
 pub(crate) fn short_cosine(t: &Entries, latitude: i32) -> u64
     requires t_value { t.now ≡ sines }
     requires latitude_value { is_latitude latitude ≡ true }
@@ -82,6 +87,7 @@ pub(crate) fn short_cosine(t: &Entries, latitude: i32) -> u64
 }
 
 // 10^13 times the sine of an angle from -180 to 180 degrees.
+#[tactic(auto, using(signed::specs::Machine::kept, ticks::specs::TickLaws::latitude_fits, ticks::specs::TickLaws::folded_latitude))]
 pub(crate) fn long_around(t: &Entries, angle: i64) -> i64
     requires t_value { t.now ≡ sines }
     requires angle_value { is_angle angle ≡ true }
@@ -99,6 +105,7 @@ pub(crate) fn short_around(t: &Entries, angle: i64) -> i64
     long_around(t, angle) / (SHORTENING as i64)
 }
 
+#[tactic(auto, unfolding(crate::specs::Angle::long_sine_of))]
 pub(crate) fn long_sine(t: &Entries, angle: i32) -> Sine
     requires { t.now ≡ sines }
     ensures { result ≡ long_sine_of angle }
@@ -110,6 +117,7 @@ pub(crate) fn long_sine(t: &Entries, angle: i32) -> Sine
     Sine::Value(long_around(t, a))
 }
 
+#[tactic(auto, unfolding(crate::specs::Angle::short_sine_of))]
 pub(crate) fn short_sine(t: &Entries, angle: i32) -> Sine
     requires { t.now ≡ sines }
     ensures { result ≡ short_sine_of angle }
@@ -121,6 +129,7 @@ pub(crate) fn short_sine(t: &Entries, angle: i32) -> Sine
     Sine::Value(short_around(t, a))
 }
 
+#[tactic(auto, using(refusals::specs::Tests::passed, refusals::specs::Tests::failed, sines::specs::SineLaws::some_halves, sines::specs::SineLaws::sine_by_top, crate::specs::AngleLaws::halves_size), unfolding(crate::specs::Angle::long_sine_half_of))]
 pub(crate) fn long_sine_half(t: &Entries, halves: i32) -> Sine
     requires { t.now ≡ sines }
     ensures { result ≡ long_sine_half_of halves }

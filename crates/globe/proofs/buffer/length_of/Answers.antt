@@ -1,0 +1,11 @@
+use Rattle.std.proofs.Common.{suc, arith}
+use Rattle.points.specs.PointLaws.{accepted}
+use Rattle.globe.specs.Measure.{length_up_to}
+use Rattle.globe.specs.MeasureLaws.{length_longest}
+use Rattle.globe.proofs.buffer.length_of.Goals as goal
+
+pub overflow_add-sum : goal.overflow_add-sum
+unfolding length_up_to
+overflow_add-sum c =
+    let b = c.args.points.now in
+    omega (arith, length_longest b (suc c.loop-i.i), accepted b c.requires.points_value, c.count-n.ensures)
