@@ -2,8 +2,8 @@
 use Rattle.std.proofs.Common.{◌≡◌, refl, sym, ap, ◌∙◌, length, to_z-of_z, arith}
 use Rattle.numbers.specs.Number.{named_byte}
 use Rattle.numerals.specs.Numeral.{numeral_of}
-use Rattle.numerals.specs.NumeralSteps.{any_mark}
-use Rattle.numerals.specs.OutputLaws.{room_refused, output_kept}
+use Rattle.numerals.proofs.NumeralSteps.{any_mark}
+use Rattle.numerals.proofs.OutputLaws.{room_refused, output_kept}
 use Rattle.numerals.proofs.write.Goals as goal
 
 pub returns-then-out-n-clause-left : goal.returns-then-out-n-clause-left

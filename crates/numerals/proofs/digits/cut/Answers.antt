@@ -2,7 +2,7 @@
 use Rattle.std.specs.Prelude.{ℤ, pos}
 use Rattle.std.specs.Int.Signed.{lt_z}
 use Rattle.std.proofs.Common.{sym, ap, to_z-of_z, arith}
-use Rattle.numerals.specs.NumeralSteps.{parted}
+use Rattle.numerals.proofs.NumeralSteps.{parted}
 use Rattle.numerals.proofs.digits.cut.Goals as goal
 
 pub returns : goal.returns

@@ -1,7 +1,7 @@
 -- The loop's test says both that digits are left and that the last of them is 0.
 use Rattle.std.proofs.Common.{ltb, ltb-true, eqb, eqb-true, ◌%◌}
 use Rattle.refusals.specs.Tests.{and_true}
-use Rattle.numerals.specs.NumeralSteps.{shorn_on}
+use Rattle.numerals.proofs.NumeralSteps.{shorn_on}
 use Rattle.numerals.proofs.digits.shorn.Goals as goal
 
 pub loop-count-preserved : goal.loop-count-preserved

@@ -1,5 +1,5 @@
 -- One digit more, or as many as `n` has.
-use Rattle.numerals.specs.NumeralSteps.{lifted_on, lifted_off}
+use Rattle.numerals.proofs.NumeralSteps.{lifted_on, lifted_off}
 use Rattle.numerals.proofs.digits.whole.Goals as goal
 
 pub loop-value-preserved : goal.loop-value-preserved

@@ -4,11 +4,11 @@ use borrow.Author.Tests.{lt-ltb}
 use mir.Facts.{to_z-of_z}
 use Rattle.signed.specs.Machine.{at32, wider}
 use Rattle.points.specs.Points.{most_points}
-use Rattle.ticks.specs.TickLaws.{latitude_fits, longitude_fits}
+use Rattle.ticks.proofs.TickLaws.{latitude_fits, longitude_fits}
 use Rattle.numbers.specs.Pieces.{is_byte}
 use Prim.Native.Char.{code}
 use Rattle.numbers.specs.declared.Kind.TheVariants as K
-use Rattle.numbers.specs.NumberLaws.{number_in, latitude_in, longitude_in}
+use Rattle.numbers.proofs.NumberLaws.{number_in, latitude_in, longitude_in}
 use Rattle.route.specs.Line.{point_of}
 use Rattle.route.proofs.lines.point.Goals as goal
 use Rattle.route.proofs.lines.point.Goals.{In-Value-number2}

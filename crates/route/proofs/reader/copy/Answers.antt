@@ -1,6 +1,6 @@
 use Rattle.std.proofs.Common.{◌≡◌, pos, w32, to_z, of_z, get_or, arith, rules}
 use Rattle.std.proofs.Math.ListN.{length-set}
-use Rattle.route.specs.WalkLaws.{copy_step}
+use Rattle.route.proofs.WalkLaws.{copy_step}
 use Rattle.route.proofs.reader.copy.Goals as goal
 
 pub loop-i-preserved : goal.loop-i-preserved

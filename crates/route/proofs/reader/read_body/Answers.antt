@@ -10,8 +10,9 @@ use Rattle.numbers.specs.Pieces.{LF, split}
 use Rattle.route.specs.declared.lines.State.{State}
 use Rattle.route.specs.Line.{fresh}
 use Rattle.route.specs.Route.{accepted, walk_from}
-use Rattle.route.specs.LineLaws.{seen_in, seen_count}
-use Rattle.route.specs.RouteLaws.{AllRead, walked, measured}
+use Rattle.route.specs.LineLaws.{seen_in}
+use Rattle.route.proofs.LineLaws.{seen_count}
+use Rattle.route.proofs.RouteLaws.{AllRead, walked, measured}
 use Rattle.route.proofs.reader.read_body.Goals as goal
 
 -- an accepted text: the start of our own buffer has its points

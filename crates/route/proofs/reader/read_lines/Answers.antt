@@ -1,10 +1,12 @@
 use Rattle.std.proofs.Common.{◌≡◌, ℕ, ◌+◌, ◌*◌, ◌≤◌, ◌<◌, length, take, sym, ap, ◌∙◌, arith}
 use Rattle.points.specs.Points.{numbers, most_points}
-use Rattle.numbers.specs.PieceLaws.{onward_less}
+use Rattle.numbers.proofs.PieceLaws.{onward_less}
 use Rattle.route.specs.declared.reader.Judged.{Judged}
 use Rattle.route.specs.Line.{line_of}
-use Rattle.route.specs.LineLaws.{state_after, seen_in, seen_line, seen_after, line_few}
-use Rattle.route.specs.WalkLaws.{came, end_came, walk_last, walk_step}
+use Rattle.route.specs.LineLaws.{state_after, seen_in}
+use Rattle.route.proofs.LineLaws.{seen_line, seen_after, line_few}
+use Rattle.route.specs.WalkLaws.{came}
+use Rattle.route.proofs.WalkLaws.{end_came, walk_last, walk_step}
 use Rattle.route.proofs.Tags.{goes_on}
 use Rattle.route.proofs.reader.read_lines.Goals as goal
 
