@@ -16,7 +16,6 @@ use Rattle.signed.specs.Sign.{sign_as}
 use Rattle.signed.specs.SignLaws.{as_size, as_self, as_as}
 use Rattle.sines.specs.Sine.{step, quarter, long_sine}
 use Rattle.sines.proofs.SineLaws.{a_step, long_sine_lt, long_sine_one, long_sine_zero}
-use Rattle.sines.specs.Greatest.{greatest}
 use Rattle.sines.proofs.GreatestLaws.{greatest_is}
 use Rattle.sines.specs.BackLaws.{LastAngle}
 use Rattle.sines.proofs.BackLaws.{later}

@@ -1,40 +1,19 @@
 -- Demand 3 proved once for every sheet whose latitudes come back from their heights, and so for both sheets; that two ways back which
 -- meet it agree; and the way back as it is worked out.
 -- Assumes nothing.
-use Rattle.std.specs.Prelude.{◌≡◌, ◌↔◌, ◌⊎◌, Bool, ℕ, zero, suc, ◌≤◌, ◌<◌, leb, ℤ, pos, negsuc, neg_ℤ, nat_abs, ◌+ℤ◌, ◌*ℤ◌, if◌then◌else◌}
-use Rattle.std.proofs.Math.Path.{refl, sym, ap}
-use Rattle.std.proofs.Common.{subst, ◌∙◌, inl, inr, ⊎_elim, le_refl, arith}
-use Rattle.std.proofs.Math.Bool.{true, false}
-use Rattle.std.proofs.Math.Nat.{div-zero}
-use borrow.Author.Tests.{eqb-true, eqb-false, ne_eqb, le-leb, lt-leb}
+use Rattle.std.specs.Prelude.{◌≡◌, Bool, ℕ, leb, ℤ, pos, ◌+ℤ◌, ◌*ℤ◌, if◌then◌else◌}
+use Rattle.std.proofs.Math.Bool.{true}
 use Rattle.std.proofs.Math.Dec.{eqb}
-use Rattle.std.proofs.Math.IntN.{*ℤ-zero}
 use Rattle.std.specs.Int.Signed.{quot_z}
-use Rattle.signed.specs.Sides.{same, mul_above, mul_below, quot_mul}
-use Rattle.signed.specs.Tests.{eq_z, eq_z_true, eq_eq_z}
-use Rattle.signed.specs.Sign.{sign_as}
-use Rattle.signed.specs.SignLaws.{as_size, as_self, as_as}
-use Rattle.sines.specs.Sine.{step, quarter, long_sine}
-use Rattle.sines.proofs.SineLaws.{a_step, long_sine_lt, long_sine_one, long_sine_zero}
+use Rattle.signed.specs.Tests.{eq_z}
+use Rattle.sines.specs.Sine.{quarter, long_sine}
 use Rattle.sines.specs.Greatest.{greatest}
-use Rattle.sines.proofs.GreatestLaws.{greatest_is}
-use Rattle.sines.specs.BackLaws.{LastAngle}
-use Rattle.sines.proofs.BackLaws.{later}
-use Rattle.globe.specs.declared.Place.{Place}
-use Rattle.globe.specs.declared.Place.TheVariants as P
-use Rattle.globe.specs.declared.PlaceOut.{PlaceOut}
 use Rattle.globe.specs.declared.Point.{Point}
 use Rattle.globe.specs.declared.Point.TheVariants as Q
-use Rattle.globe.specs.declared.PointOut.{PointOut}
-use Rattle.refusals.specs.Refusal.{PLACE, MERIDIAN}
-use Rattle.refusals.specs.Choice.{unless, answered}
-use Rattle.refusals.specs.Tests.{and_true, true_and, and_yes, by_test, clash}
-use Rattle.ticks.specs.Ticks.{is_latitude, is_longitude, accepted, turned, offset_of, point_refusal, sheet_refusal}
-use Rattle.ticks.proofs.TickLaws.{latitude_size, is_longitude_lem, offset_longitude, sum_longitude, turn_back, back_turn, no_offset, sheet_accepted}
-use Rattle.globe.specs.Angle.{signed_long_sine}
-use Rattle.globe.specs.Sheet.{Sheet, cylinder, sinusoid, place_of, cylindrical_of, sinusoidal_of, is_at, back_of, cylindrical_back_of, sinusoidal_back_of}
-use Rattle.globe.specs.Paper.{place_paper, point_paper}
-use Rattle.globe.specs.Demand.{there, no_place, no_point, Demand3}
+use Rattle.refusals.specs.Refusal.{PLACE}
+use Rattle.refusals.specs.Choice.{unless}
+use Rattle.ticks.specs.Ticks.{is_latitude, is_longitude, turned}
+use Rattle.globe.specs.Sheet.{Sheet, place_of, is_at}
 
 -- the latitude comes back from its height
 pub record Invertible (s : Sheet) : Type 0 where

@@ -1,6 +1,6 @@
 -- Laws of numbers: how large a number of its kind is, what a number is for each way out of its reading, and what one that was read tells.
 -- Assumes nothing.
-use Rattle.std.specs.Prelude.{◌≡◌, refl, Bool, not, ◌&&◌, ◌||◌, ◌⊎◌, ℤ, pos, negsuc, neg_ℤ, nat_abs, take, drop, get_or, if◌then◌else◌}
+use Rattle.std.specs.Prelude.{◌≡◌, refl, Bool, not, ◌||◌, ◌⊎◌, ℤ, pos, negsuc, nat_abs, take, get_or, if◌then◌else◌}
 use Rattle.std.proofs.Math.Path.{sym}
 use Rattle.std.proofs.Common.{ap, subst, ◌∙◌, inl, inr, ⊎_elim, lt_of_lt_of_le, mul-le-mul_right, add-one, lit<, pow-add, take_all, length-take-le}
 use Rattle.std.proofs.Math.Bool.{true, false}
@@ -21,9 +21,7 @@ use Rattle.numbers.specs.declared.Mark.{Mark}
 use Rattle.numbers.specs.declared.Mark.TheVariants as M
 use Rattle.numbers.specs.declared.Kind.{Kind}
 use Rattle.numbers.specs.declared.Kind.TheVariants as K
-use Rattle.numbers.specs.declared.Number.{Number}
 use Rattle.numbers.specs.declared.Number.TheVariants as N
-use Rattle.numbers.specs.declared.digits.Amount.{Amount}
 use Rattle.numbers.specs.declared.digits.Amount.TheVariants as A
 use Rattle.numbers.specs.Pieces.{TAB, index_of, holds, is_byte}
 use Rattle.numbers.specs.PieceLaws.{onward}

@@ -1,12 +1,6 @@
 -- Laws of digits: those that stand first in a text, how they are walked from the left, and how large a number they make.
 -- Assumes nothing.
-use Rattle.std.specs.Prelude.{◌≡◌, refl, Bool, true, false, ◌&&◌, List, [], ◌∷◌, ◌++◌, ℕ, zero, suc, ◌+◌, ◌-◌, ◌*◌, ◌^◌, ◌≤◌, ◌<◌, T, eqb, ltb, leb, length, take, drop, get_or, if◌then◌else◌}
-use Rattle.std.proofs.Common.{sym, ap, subst, ◌∙◌, lt_of_lt_of_le, mul-le-mul_right, pow-suc, add-one, arith, ltb-false, leb-true, le-leb, ne_eqb, lit<, length-append, drop_of_length-le, pow-add, drop-cons}
-use Rattle.std.proofs.Math.Nat.{one-le-pow, pow-le-pow_right}
-use Rattle.std.proofs.Math.Seq.{take-length}
-use Rattle.refusals.specs.Tests.{by_test, and_true}
-use Rattle.numbers.specs.Pieces.{index_of, holds}
-use Rattle.numbers.specs.Number.{all_digits, are_digits, value_of}
+use Rattle.std.specs.Prelude.{Bool, ◌&&◌, List, [], ◌∷◌, ℕ, zero, suc, ◌+◌, ◌-◌, ◌*◌, leb, if◌then◌else◌}
 
 -- what fits 64 bits with its sign
 abbrev pub most_digits : ℕ

@@ -1,34 +1,20 @@
 -- Laws of numbers: how large a number of its kind is, what a number is for each way out of its reading, and what one that was read tells.
 -- Assumes nothing.
-use Rattle.std.specs.Prelude.{◌≡◌, refl, Bool, not, ◌&&◌, ◌||◌, ◌⊎◌, ℤ, pos, negsuc, neg_ℤ, nat_abs, take, drop, get_or, if◌then◌else◌}
-use Rattle.std.proofs.Math.Path.{sym}
-use Rattle.std.proofs.Common.{ap, subst, ◌∙◌, inl, inr, ⊎_elim, lt_of_lt_of_le, mul-le-mul_right, add-one, lit<, pow-add, take_all, length-take-le}
+use Rattle.std.specs.Prelude.{◌≡◌, Bool, not, ◌&&◌, ◌||◌, ℤ, pos, neg_ℤ, take, drop, if◌then◌else◌}
 use Rattle.std.proofs.Math.Bool.{true, false}
-use mathlib.Core.List.{List, [], ◌∷◌, ◌++◌, append-nil}
-use Prim.Native.Nat.{ℕ, zero, suc, ◌+◌, ◌-◌, ◌*◌, ◌^◌, ◌≤◌, ◌<◌}
-use Rattle.std.proofs.Math.Nat.{one-le-pow, pow-le-pow_right}
-use native.Mathlib.Omega.{arith}
-use borrow.Author.Tests.{lt-ltb, eq-eqb, ne_eqb}
-use Rattle.std.proofs.Math.Dec.{T, eqb}
-use Rattle.std.proofs.Math.ListN.{length, drop_of_length-le}
-use Rattle.std.proofs.Math.Seq.{take-length}
+use mathlib.Core.List.{List, ◌++◌}
+use Prim.Native.Nat.{ℕ, suc, ◌-◌, ◌*◌, ◌^◌}
+use Rattle.std.proofs.Math.ListN.{length}
 use Rattle.refusals.specs.Refusal.{NUMBER, MARK, of_line}
-use Rattle.refusals.specs.Choice.{unless, answered}
-use Rattle.refusals.specs.Tests.{by_test, clash, and_true, and_no}
-use Rattle.signed.specs.SignLaws.{as_size}
-use Rattle.ticks.specs.Ticks.{is_latitude, is_longitude}
+use Rattle.refusals.specs.Choice.{unless}
 use Rattle.numbers.specs.declared.Mark.{Mark}
-use Rattle.numbers.specs.declared.Mark.TheVariants as M
 use Rattle.numbers.specs.declared.Kind.{Kind}
-use Rattle.numbers.specs.declared.Kind.TheVariants as K
 use Rattle.numbers.specs.declared.Number.{Number}
 use Rattle.numbers.specs.declared.Number.TheVariants as N
 use Rattle.numbers.specs.declared.digits.Amount.{Amount}
 use Rattle.numbers.specs.declared.digits.Amount.TheVariants as A
-use Rattle.numbers.specs.Pieces.{TAB, index_of, holds, is_byte}
-use Rattle.numbers.specs.PieceLaws.{onward}
-use Rattle.numbers.specs.Number.{MINUS, named_byte, other_byte, places, takes_minus, ranged, all_digits, are_digits, value_of, plain_of, number_of}
-use Rattle.numbers.specs.DigitLaws.{most_digits, is_digit, value_from, leading}
+use Rattle.numbers.specs.Pieces.{index_of, holds, is_byte}
+use Rattle.numbers.specs.Number.{MINUS, named_byte, other_byte, places, takes_minus, ranged, are_digits, value_of}
 
 -- ---- the number, taken apart
 
@@ -85,9 +71,9 @@ fault_of mark s = if holds (other_byte mark) s then MARK else NUMBER
 
 -- it is what its digits make, and in range
 pub record Read (kind : Kind) (mark : Mark) (s : List ℕ) (v : ℤ) : Type 0 where
-  plain : is_plain kind (named_byte mark) (past kind s) ≡ true
-  made : v ≡ made_of kind mark s
-  within : range_refusal kind v ≡ 0
+  pub plain : is_plain kind (named_byte mark) (past kind s) ≡ true
+  pub made : v ≡ made_of kind mark s
+  pub within : range_refusal kind v ≡ 0
 
 -- ---- a value in range, or one of a line's refusals
 

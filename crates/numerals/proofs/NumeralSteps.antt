@@ -8,12 +8,11 @@ use Rattle.std.proofs.lemmas.List.Edits.{sets}
 use Rattle.std.proofs.Math.Seq.{length-sets}
 use Rattle.std.specs.Int.Signed.{lt_z}
 use Rattle.refusals.specs.Tests.{by_test, clash}
-use Rattle.numbers.specs.declared.Mark.{Mark}
 use Rattle.numbers.specs.declared.Kind.{Kind}
 use Rattle.numbers.specs.declared.Kind.TheVariants as K
 use Rattle.numerals.specs.declared.digits.Digits.{Digits}
 use Rattle.numerals.specs.declared.digits.Parts.{Parts}
-use Rattle.numbers.specs.Number.{MINUS, named_byte, places}
+use Rattle.numbers.specs.Number.{named_byte, places}
 use Rattle.numerals.specs.Numeral.{digits, width, whole_of, decimals_of, minus_of, numeral_of}
 use Rattle.numerals.proofs.Stands.{sets_append}
 use Rattle.numerals.proofs.NumeralLaws.{digits_most, digits_full, digits_some, width_some, width_least, width_holds}

@@ -1,20 +1,12 @@
 -- Digits as code works them out: as the first ones of seven, the next one first, and how many of them are written.
 -- Assumes nothing.
-use Rattle.std.specs.Prelude.{◌≡◌, refl, Bool, true, false, ◌&&◌, List, [], ◌∷◌, ◌++◌, ℕ, zero, suc, ◌+◌, ◌-◌, ◌*◌, ◌/◌, ◌%◌, ◌^◌, ◌≤◌, ◌<◌, leb, ltb, eqb, ℤ, pos, negsuc, nat_abs, length, set, if◌then◌else◌}
-use Rattle.std.proofs.Common.{sym, ap, ap₂, ◌∙◌, zero-add, add-zero, add-suc, div-lt_iff_lt-mul, pow-suc, mod-lt, mul-lt-mul_of_pos_right, mul-le-mul_right, mul-div_cancel, div-add-mod', arith, eqb-true, ne_eqb, leb-true, leb-false, le-ltb, ltb-false, lit<, lit≤, length-append, pow-add}
-use Rattle.std.proofs.Math.Nat.{pow-le-pow_right, one-le-pow, mod-mod_of_dvd, dvd-mul_left, mul-div-mul_right}
-use Rattle.std.proofs.lemmas.Bool.{eqb-false, lt-leb}
-use Rattle.std.proofs.lemmas.List.Edits.{sets}
-use Rattle.std.proofs.Math.Seq.{length-sets}
-use Rattle.std.specs.Int.Signed.{lt_z}
-use Rattle.refusals.specs.Tests.{by_test, clash}
+use Rattle.std.specs.Prelude.{◌≡◌, Bool, true, List, [], ◌∷◌, ◌++◌, ℕ, zero, suc, ◌+◌, ◌-◌, ◌*◌, ◌/◌, ◌%◌, ◌^◌, ◌≤◌, ◌<◌, eqb, ℤ, length, if◌then◌else◌}
 use Rattle.numbers.specs.declared.Mark.{Mark}
 use Rattle.numbers.specs.declared.Kind.{Kind}
-use Rattle.numbers.specs.declared.Kind.TheVariants as K
 use Rattle.numerals.specs.declared.digits.Digits.{Digits}
 use Rattle.numerals.specs.declared.digits.Parts.{Parts}
-use Rattle.numbers.specs.Number.{MINUS, named_byte, places}
-use Rattle.numerals.specs.Numeral.{digits, width, whole_of, decimals_of, minus_of, numeral_of}
+use Rattle.numbers.specs.Number.{MINUS, named_byte}
+use Rattle.numerals.specs.Numeral.{digits, numeral_of}
 
 -- a value of 32 bits has no more digits on either side of the mark
 abbrev pub most : ℕ

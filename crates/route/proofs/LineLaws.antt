@@ -1,12 +1,12 @@
 -- Laws of one line: the way through its fields, what a line tells that is read as a kind, and what the code keeps of the lines so far.
 -- Assumes nothing.
-use Rattle.std.specs.Prelude.{◌≡◌, refl, true, false, List, [], ◌∷◌, ◌++◌, ℕ, ◌+◌, ◌*◌, ◌≤◌, ◌<◌, eqb, ltb, ℤ, nat_abs, length, take, drop}
+use Rattle.std.specs.Prelude.{◌≡◌, refl, true, false, List, [], ◌∷◌, ◌++◌, ℕ, ◌+◌, ◌*◌, ◌≤◌, ◌<◌, eqb, ltb, ℤ, length, take, drop}
 use Rattle.std.proofs.Common.{ap, ◌∙◌, arith, eqb-true, ltb-true, length-append, length-take-le, take_at}
 use Prim.Native.Char.{code}
 use Rattle.std.proofs.lemmas.List.Edits.{sets, sets-eq}
 use Rattle.refusals.specs.Refusal.{LINE, of_line}
 use Rattle.refusals.specs.Tests.{clash, unless_says}
-use Rattle.points.specs.Points.{numbers, count, most_points, point_numbers}
+use Rattle.points.specs.Points.{numbers, count, most_points}
 use Rattle.numbers.specs.declared.Mark.{Mark}
 use Rattle.numbers.specs.declared.Kind.{Kind}
 use Rattle.numbers.specs.declared.Kind.TheVariants as K
@@ -19,11 +19,10 @@ use Rattle.numbers.specs.Number.{number_of}
 use Rattle.numbers.specs.NumberLaws.{NumberSays}
 use Rattle.numbers.proofs.NumberLaws.{number_says, number_untabbed}
 use Rattle.numbers.specs.NumberLaws as Numbers
-use Rattle.route.specs.declared.Target.TheVariants as T
 use Rattle.route.specs.declared.lines.Line.{Line}
 use Rattle.route.specs.declared.lines.Line.TheVariants as L
 use Rattle.route.specs.declared.lines.State.{State}
-use Rattle.route.specs.Line.{gap_of, target_of, point_of, fields_of, line_of, taken, third_of, Seen, after_of}
+use Rattle.route.specs.Line.{gap_of, target_of, point_of, fields_of, line_of, taken, Seen, after_of}
 use Rattle.route.specs.LineLaws.{state_after, numbers_of, seen_in, LineSays, LastSays, gap, point, refused, target, read, refused}
 
 -- so many numbers a point

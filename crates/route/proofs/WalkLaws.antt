@@ -1,17 +1,15 @@
 -- Laws of the walk over the lines as the code goes it: what is left of the text comes to what the whole text comes to.
 -- Assumes nothing.
-use Rattle.std.specs.Prelude.{◌≡◌, refl, List, [], ◌∷◌, ◌++◌, ℕ, suc, ◌+◌, ◌-◌, ◌*◌, ◌≤◌, ◌<◌, leb, eqb, ℤ, pos, set, length, take, drop, get_or, if◌then◌else◌}
+use Rattle.std.specs.Prelude.{◌≡◌, refl, List, [], ◌∷◌, ◌++◌, ℕ, suc, ◌+◌, ◌*◌, ◌≤◌, ◌<◌, leb, eqb, ℤ, pos, set, length, take, drop, get_or}
 use Rattle.std.proofs.Common.{sym, ap, ◌∙◌, add-one, arith, le-leb, drop-cons, take-suc, length-take-le}
 use Prim.Native.Char.{code}
 use Rattle.std.proofs.lemmas.Bool.{lt-leb}
 use Rattle.std.proofs.Math.Seq.{append_snoc}
 use Rattle.std.proofs.lemmas.List.{set_at}
-use Rattle.refusals.specs.Refusal.{TEXT, HEADER, LINE, ORDER, ROOM}
-use Rattle.refusals.specs.Choice.{unless}
+use Rattle.refusals.specs.Refusal.{TEXT, HEADER, LINE}
 use Rattle.refusals.specs.Tests.{by_test}
 use Rattle.points.specs.Points.{numbers, most_points}
 use Rattle.numbers.specs.declared.Mark.{Mark}
-use Rattle.numbers.specs.declared.Mark.TheVariants as M
 use Rattle.numbers.specs.Pieces.{LF, split, index_of, same}
 use Rattle.numbers.specs.PieceLaws.{onward}
 use Rattle.numbers.proofs.PieceLaws.{split_cut, split_last, split_some}
@@ -20,11 +18,10 @@ use Rattle.route.specs.declared.Header.TheVariants as H
 use Rattle.route.specs.declared.lines.Line.{Line}
 use Rattle.route.specs.declared.lines.Line.TheVariants as L
 use Rattle.route.specs.declared.lines.State.{State}
-use Rattle.route.specs.declared.reader.Judged.{Judged}
 use Rattle.route.specs.declared.reader.Judged.TheVariants as J
 use Rattle.route.specs.Line.{Seen, fresh, line_of, after_of}
 use Rattle.route.specs.LineLaws.{seen_in}
-use Rattle.route.specs.Route.{most_bytes, Walk, refused, accepted, on_line, walk_from, lines_of, walk_of}
+use Rattle.route.specs.Route.{most_bytes, refused, on_line, walk_from, lines_of, walk_of}
 use Rattle.numbers.specs.Text.{bytes}
 use Rattle.route.specs.WalkLaws.{came, few_in, end_of, header_of, after_header}
 

@@ -1,7 +1,7 @@
 -- The two rules of the table, each proved once over it: a test that antt computes over the whole table, and a law that turns
 -- the test into the rule at each entry. With them how far it grows beyond its rule, the ends of the table, and that it rises.
 -- Assumes nothing.
-use Rattle.std.specs.Prelude.{◌≡◌, refl, Bool, true, false, ◌&&◌, T, leb, ℤ, pos, neg_ℤ, ◌+ℤ◌, ◌-ℤ◌, ◌*ℤ◌, ◌≤ℤ◌, length, get_or, drop}
+use Rattle.std.specs.Prelude.{◌≡◌, refl, Bool, true, false, ◌&&◌, T, leb, neg_ℤ, length, get_or, drop}
 use Rattle.std.proofs.Common.{ap, ⊎_elim, le_refl, le_trans, le_of_eq, eq-or-lt_of_le, le_of_suc-le-suc, not-suc-le-zero, add-one, sub-one, arith}
 use mathlib.Core.List.{List, [], ◌∷◌}
 use Prim.Native.Nat.{ℕ, zero, suc, ◌+◌, ◌-◌, ◌≤◌, ◌<◌}

@@ -1,6 +1,6 @@
 -- The slope by the rows of the table: first the last row at whose first angle the test holds, then the angles of that row.
 -- Assumes nothing.
-use Rattle.std.specs.Prelude.{◌≡◌, Bool, true, ℕ, ◌+◌, ◌-◌, ◌*◌, ◌/◌, ◌≤◌, ◌<◌}
+use Rattle.std.specs.Prelude.{◌≡◌, true, ℕ, ◌+◌, ◌-◌, ◌*◌, ◌/◌, ◌≤◌, ◌<◌}
 use Rattle.std.proofs.Math.Path.{ap}
 use Rattle.std.proofs.Common.{ap₂, ◌∙◌, le_refl, mul-le-mul, mul-le-mul_right, arith}
 use Rattle.std.proofs.Math.Nat.{div-le_of_le-mul}
@@ -11,7 +11,7 @@ use Rattle.sines.proofs.Rules.{growth, entry_top}
 use Rattle.sines.specs.Sine.{step, quarter, short_unit, shortening, short_sine}
 use Rattle.sines.specs.SineLaws.{between}
 use Rattle.sines.proofs.SineLaws.{a_step, to_next, long_sine_entry}
-use Rattle.sines.specs.Greatest.{greatest, IsGreatest}
+use Rattle.sines.specs.Greatest.{IsGreatest}
 use Rattle.sines.proofs.GreatestLaws.{greatest_meets}
 use Rattle.sines.proofs.Halving.{Falls, Within}
 use Rattle.sines.specs.Slope.{reaches, slope_of}

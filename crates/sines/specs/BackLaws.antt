@@ -1,17 +1,9 @@
 -- Laws of the way back: the last row and the last angle whose sine is at most a number, and the greatest angle that they give.
 -- Assumes nothing.
-use Rattle.std.specs.Prelude.{◌≡◌, ℕ, ◌+◌, ◌-◌, ◌*◌, ◌/◌, ◌≤◌, ◌<◌}
-use Rattle.std.proofs.Common.{sym, le_refl, mul-pos, le-div_iff_mul-le, div-lt_iff_lt-mul}
-use Rattle.std.proofs.Math.Nat.{mul-le-mul_right, div-mul-le_self, lt-div-mul-add}
-use native.Mathlib.Omega.{arith}
-use Rattle.std.proofs.Math.Dec.{leb}
-use borrow.Author.Tests.{le-leb, lt-leb}
-use Rattle.sines.specs.Table.{unit, entry}
+use Rattle.std.specs.Prelude.{ℕ, ◌+◌, ◌*◌, ◌≤◌, ◌<◌}
+use Rattle.sines.specs.Table.{entry}
 use Rattle.sines.specs.Rules.{rows}
-use Rattle.sines.specs.Sine.{step, sine_by, step_halves, quarter_halves, leg_sine}
-use Rattle.sines.specs.SineLaws.{between}
-use Rattle.sines.specs.Greatest.{IsGreatest}
-use Rattle.sines.specs.Back.{greatest_by, greatest_angle}
+use Rattle.sines.specs.Sine.{sine_by}
 
 -- ---- the last row
 

@@ -1,17 +1,10 @@
 -- The slope by the rows of the table: first the last row at whose first angle the test holds, then the angles of that row.
 -- Assumes nothing.
-use Rattle.std.specs.Prelude.{◌≡◌, Bool, true, ℕ, ◌+◌, ◌-◌, ◌*◌, ◌/◌, ◌≤◌, ◌<◌}
-use Rattle.std.proofs.Math.Path.{ap}
-use Rattle.std.proofs.Common.{ap₂, ◌∙◌, le_refl, mul-le-mul, mul-le-mul_right, arith}
-use Rattle.std.proofs.Math.Nat.{div-le_of_le-mul}
-use Rattle.std.proofs.Math.Dec.{leb}
-use Rattle.sines.specs.Table.{unit, entry}
+use Rattle.std.specs.Prelude.{Bool, ℕ, ◌+◌, ◌*◌, ◌/◌}
 use Rattle.sines.specs.Rules.{rows}
-use Rattle.sines.specs.Sine.{step, quarter, short_unit, shortening, short_sine}
-use Rattle.sines.specs.SineLaws.{between}
-use Rattle.sines.specs.Greatest.{greatest, IsGreatest}
-use Rattle.sines.specs.Slope.{reaches, slope_of}
-use Rattle.sines.specs.SlopeLaws.{most_size}
+use Rattle.sines.specs.Sine.{step, shortening}
+use Rattle.sines.specs.Greatest.{greatest}
+use Rattle.sines.specs.Slope.{reaches}
 
 -- ---- the last row
 

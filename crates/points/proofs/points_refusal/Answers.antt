@@ -1,6 +1,5 @@
 -- `points_refusal` meets its contract. The loop's invariant: `refusal` is the definition's answer for the first `i` points.
 -- Assumes nothing.
-use Prim.Native.Nat.{◌-◌}
 use native.Mathlib.Numerals.{add-one}
 use native.Mathlib.Omega.{arith}
 use mir.Syntax.{w32}

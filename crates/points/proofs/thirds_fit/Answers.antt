@@ -1,6 +1,5 @@
 -- `thirds_fit` meets its contract. The loop's invariant: `fit` is the definition's answer for the first `i` points.
 -- Assumes nothing.
-use Prim.Native.Nat.{◌-◌}
 use native.Mathlib.Numerals.{add-one}
 use borrow.Author.Rules.{rules}
 use Rattle.points.specs.Points.{thirds_fit}

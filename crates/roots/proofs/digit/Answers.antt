@@ -1,5 +1,4 @@
 -- `roots::digit` meets its contract. The loop's invariant: the digit after `d` does not fit. The measure is `d`. Assumes nothing.
-use Prim.Native.Nat.{◌-◌}
 use Rattle.roots.proofs.SchoolLaws.{digit_is}
 use Rattle.roots.proofs.digit.Goals as goal
 

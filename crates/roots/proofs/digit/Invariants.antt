@@ -1,5 +1,5 @@
 -- `roots::digit` meets its contract. The loop's invariant: the digit after `d` does not fit. The measure is `d`. Assumes nothing.
-use Prim.Native.Nat.{◌+◌, ◌-◌, ◌<◌}
+use Prim.Native.Nat.{◌+◌, ◌<◌}
 use Rattle.roots.specs.School.{taken}
 use Rattle.roots.proofs.digit.Given as goal
 

@@ -1,7 +1,6 @@
 -- `roots::first_unit` meets its contract. The loop's invariant: `unit` is a power of 100 and not past `h`, unless it is 1. The measure is
 -- what is left up to 2^64. Assumes nothing.
 use native.Mathlib.Omega.{arith}
-use Prim.Native.Nat.{◌-◌}
 use Rattle.roots.proofs.PairLaws.{further, some, at_first}
 use Rattle.roots.proofs.first_unit.Goals as goal
 

@@ -1,4 +1,4 @@
-use Rattle.std.proofs.Common.{ltb, ◌≡◌, ℕ, suc, ◌+◌, ◌≤◌, ◌<◌, List, ℤ, ap, arith}
+use Rattle.std.proofs.Common.{ltb, ◌≡◌, suc, ◌≤◌, ◌<◌, ap, arith}
 use borrow.Author.Tests.{ltb-true, ltb-false, lt-ltb, le-leb, lt-leb}
 use Rattle.refusals.specs.Tests.{and_true}
 use Rattle.sines.proofs.LeastLaws.{least_is}

@@ -1,4 +1,4 @@
-use Rattle.std.proofs.Common.{◌≡◌, ap, ◌∙◌, ℤ, pos, ◌*ℤ◌, w64, to_z, of_z}
+use Rattle.std.proofs.Common.{◌≡◌, ap, ◌∙◌, pos, ◌*ℤ◌, w64, to_z, of_z}
 use mir.Facts.{to_z-of_z}
 use Rattle.signed.specs.Machine.{kept}
 use Rattle.globe.specs.Angle.{short_cosine, short_around}
@@ -12,7 +12,7 @@ rise_at : (c : After-scaled-rise) → to_z w64 (of_z w64 c.scaled-rise.result) �
 rise_at c =
     let cosine_at : to_z w64 (of_z w64 c.offset_cosine.result) ≡ pos (short_cosine c.args.start)
     = kept w64 c.offset_cosine.result c.offset_cosine.type_inv ∙ c.offset_cosine.ensures ∙ ap offset_cosine (to_z-of_z c.ranges.start)
-      ∙ offset_cosine_latitude c.args.start c.requires.start_value in
+    ∙ offset_cosine_latitude c.args.start c.requires.start_value in
     let sine_at : to_z w64 (of_z w64 c.short_around.result) ≡ short_around c.args.end
     = kept w64 c.short_around.result c.short_around.type_inv ∙ c.short_around.ensures ∙ ap short_around (to_z-of_z c.ranges.end) in
     kept w64 c.scaled-rise.result c.scaled-rise.type_inv ∙ c.scaled-rise.ensures ∙ rw (cosine_at, sine_at)
@@ -23,7 +23,7 @@ back_at c =
     = kept w64 c.short_around-2.result c.short_around-2.type_inv ∙ c.short_around-2.ensures ∙ ap short_around (to_z-of_z c.ranges.start) in
     let cosine_at : to_z w64 (of_z w64 c.offset_cosine-2.result) ≡ pos (short_cosine c.args.end)
     = kept w64 c.offset_cosine-2.result c.offset_cosine-2.type_inv ∙ c.offset_cosine-2.ensures ∙ ap offset_cosine (to_z-of_z c.ranges.end)
-      ∙ offset_cosine_latitude c.args.end c.requires.end_value in
+    ∙ offset_cosine_latitude c.args.end c.requires.end_value in
     kept w64 c.scaled-back.result c.scaled-back.type_inv ∙ c.scaled-back.ensures ∙ rw (sine_at, cosine_at)
 
 around_at : (c : After-offset_cosine-3) → to_z w64 (of_z w64 c.offset_cosine-3.result) ≡ offset_cosine c.args.offset

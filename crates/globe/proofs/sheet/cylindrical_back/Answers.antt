@@ -1,4 +1,4 @@
-use Rattle.std.proofs.Common.{◌≡◌, ℕ, true, sym, ap, ◌∙◌, ℤ, nat_abs, w64, to_z, of_z, arith}
+use Rattle.std.proofs.Common.{◌≡◌, true, sym, ap, ◌∙◌, ℤ, nat_abs, w64, to_z, of_z, arith}
 use mir.Facts.{to_z-of_z}
 use Rattle.refusals.specs.Tests.{told}
 use Rattle.signed.specs.Machine.{at64, kept}

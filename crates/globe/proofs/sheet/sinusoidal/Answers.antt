@@ -1,4 +1,4 @@
-use Rattle.std.proofs.Common.{◌≡◌, sym, ap, ◌∙◌, ℤ, pos, ◌*ℤ◌, w64, to_z, of_z, FitsSigned, arith}
+use Rattle.std.proofs.Common.{◌≡◌, sym, ap, ◌∙◌, pos, ◌*ℤ◌, w64, to_z, of_z, FitsSigned, arith}
 use mathlib.Core.Path.{ap₂}
 use mir.ValLaws.{to_z_pos}
 use mir.Facts.{to_z-of_z}

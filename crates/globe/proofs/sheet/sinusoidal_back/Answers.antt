@@ -1,4 +1,4 @@
-use Rattle.std.proofs.Common.{◌≡◌, true, refl, w32, w64, to_z, of_z}
+use Rattle.std.proofs.Common.{◌≡◌, refl, w32, w64, to_z, of_z}
 use mir.Facts.{to_z-of_z}
 use Rattle.refusals.specs.Tests.{told, clash}
 use Rattle.signed.specs.Machine.{at32, at64}

@@ -1,4 +1,4 @@
-use Rattle.std.proofs.Common.{◌≡◌, ℕ, ◌+◌, ◌-◌, ◌*◌, ◌/◌, ◌≤◌, ◌∙◌, arith}
+use Rattle.std.proofs.Common.{◌≡◌, ◌+◌, ◌*◌, ◌/◌, ◌∙◌, arith}
 use borrow.Author.Tests.{le-leb, lt-leb}
 use Rattle.sines.specs.Sine.{step}
 use Rattle.sines.proofs.Halving.{upper, lower, done}
@@ -19,7 +19,7 @@ loop-left-preserved c =
     let e = c.share.ensures in
     let o = c.share-in-loop-left.ensures in
     elim c.if-share-d.branch [
-        then-share-d w ↦
+      | then-share-d w ↦
           rw w.f-is (omega arith, rw n at (upper c.loop-left-test.true at.invariant.1 (rw n (test ∙ le-leb _ _ (rw (e, o) at w.if-share-d.true)))))
       | else-share-d w ↦
           rw w.f-is (omega arith, lower (falls a.d a.n) c.loop-left-test.true at.invariant.1 (rw n (test ∙ lt-leb _ _ (rw (e, o) at w.if-share-d.false))))

@@ -1,7 +1,7 @@
 -- `globe::slope::in_row` meets its contract. The loop's invariant: the answer is among the `left` angles from `f` ticks into row k on, and they
 -- are the row's. The measure is `left`.
 -- Assumes nothing.
-use Prim.Native.Nat.{◌+◌, ◌-◌, ◌*◌, ◌≤◌}
+use Prim.Native.Nat.{◌+◌, ◌*◌, ◌≤◌}
 use Rattle.sines.specs.Sine.{step, quarter}
 use Rattle.sines.proofs.Halving.{Within}
 use Rattle.sines.specs.Slope.{reaches}

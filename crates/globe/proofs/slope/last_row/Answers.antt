@@ -14,7 +14,7 @@ loop-rows-preserved c =
     let o = c.entry-in-loop-rows.ensures in
     let test = row_test a.d a.n {k = at.low + at.rows / 2} (omega (arith, at.invariant.inside)) in
     elim c.if-entry-d.branch [
-        then-entry-d w ↦ rw w.low-is (upper c.loop-rows-test.true at.invariant (test ∙ le-leb _ _ (rw (e, o) at w.if-entry-d.true)))
+      | then-entry-d w ↦ rw w.low-is (upper c.loop-rows-test.true at.invariant (test ∙ le-leb _ _ (rw (e, o) at w.if-entry-d.true)))
       | else-entry-d w ↦ rw w.low-is (lower (row_falls a.d a.n) c.loop-rows-test.true at.invariant (test ∙ lt-leb _ _ (rw (e, o) at w.if-entry-d.false)))
     ]
 

@@ -1,6 +1,5 @@
 -- `globe::slope::last_row` meets its contract. The loop's invariant: the answer is among the `rows` from `low` on. The measure is `rows`.
 -- Assumes nothing.
-use Prim.Native.Nat.{◌-◌}
 use Rattle.sines.specs.Rules.{rows}
 use Rattle.sines.proofs.Halving.{Within}
 use Rattle.sines.specs.SlopeRows.{row_reaches}

@@ -1,5 +1,5 @@
 -- What the digits make together is below what the kind can make, so it fits.
-use Rattle.std.proofs.Common.{◌≡◌, ℕ, ◌+◌, ◌-◌, ◌*◌, ◌^◌, ◌≤◌, ◌<◌, ◌||◌, not, List, length, get_or, sym, ap, ◌∙◌, arith, eqb}
+use Rattle.std.proofs.Common.{◌≡◌, ℕ, ◌+◌, ◌-◌, ◌*◌, ◌^◌, ◌≤◌, ◌<◌, not, length, get_or, sym, ap, ◌∙◌, arith, eqb}
 use mathlib.Core.Path.{ap₂}
 use borrow.Author.Tests.{eqb-true, eqb-false, not-false}
 use Rattle.refusals.specs.Tests.{or_false}

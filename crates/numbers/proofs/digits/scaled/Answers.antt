@@ -1,7 +1,7 @@
 -- `scaled` meets its contract. The loop's invariant: `x` is `n` times ten to the `i`.
 -- The measure is what is left of `tens`.
 -- Assumes nothing.
-use Prim.Native.Nat.{suc, ◌-◌, ◌≤◌}
+use Prim.Native.Nat.{suc, ◌≤◌}
 use native.Mathlib.Nat.{mul-le-mul_left, pow-suc, pow-le-pow_right}
 use native.Mathlib.Numerals.{add-one}
 use native.Mathlib.Omega.{arith}

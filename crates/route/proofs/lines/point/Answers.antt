@@ -1,5 +1,5 @@
 -- A latitude and a longitude in range fit 32 bits.
-use Rattle.std.proofs.Common.{◌≡◌, true, sym, ◌∙◌, w32, w64, FitsSigned}
+use Rattle.std.proofs.Common.{◌≡◌, true, sym, ◌∙◌, w32, FitsSigned}
 use borrow.Author.Tests.{lt-ltb}
 use mir.Facts.{to_z-of_z}
 use Rattle.signed.specs.Machine.{at32, wider}

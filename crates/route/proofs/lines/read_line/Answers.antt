@@ -1,5 +1,5 @@
 -- The tabs that are found part the line into the definition's fields, and the last field of a point holds none.
-use Rattle.std.proofs.Common.{◌≡◌, ℕ, ◌+◌, ◌≤◌, ◌<◌, length, refl, sym, subst, ◌∙◌, arith}
+use Rattle.std.proofs.Common.{◌+◌, ◌<◌, length, refl, sym, subst, ◌∙◌, arith}
 use Rattle.numbers.specs.PieceLaws.{onward}
 use Rattle.route.specs.LineLaws.{LastSays}
 use Rattle.route.proofs.LineLaws.{last_says, three_fields}

@@ -1,4 +1,4 @@
-use Rattle.std.proofs.Common.{◌≡◌, ℕ, ◌+◌, ◌*◌, ◌≤◌, ◌<◌, length, take, sym, ap, ◌∙◌, arith}
+use Rattle.std.proofs.Common.{◌≡◌, ◌*◌, ◌≤◌, ◌<◌, length, take, sym, ap, ◌∙◌, arith}
 use Rattle.points.specs.Points.{numbers, most_points}
 use Rattle.numbers.proofs.PieceLaws.{onward_less}
 use Rattle.route.specs.declared.reader.Judged.{Judged}
