@@ -1,17 +1,9 @@
 pub mod Angle
-pub mod AngleLaws
 pub mod Sheet
 pub mod Demand
 pub mod SheetLaws
 pub mod Leg
-pub mod LegLaws
 pub mod Measure
-pub mod MeasureLaws
 pub mod Met
 pub mod Course
-pub mod CourseLaws
 pub mod Paper
-pub mod Promises
-pub mod CoursePromises
-pub mod MetPromises
-pub mod Figures

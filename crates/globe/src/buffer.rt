@@ -12,7 +12,7 @@ use refusals::{TARGET, first_of};
 use sines::Entries;
 
 // The leg into point `i`, 0 where it is not counted.
-#[tactic(auto, using(signed::specs::Machine::bits_test, points::specs::PointLaws::point_of_lem, points::specs::PointLaws::leg_before, points::specs::PointLaws::latitude_read, points::specs::PointLaws::longitude_read), unfolding(crate::specs::Measure::leg_into))]
+#[tactic(auto, using(signed::specs::Machine::bits_test, points::proofs::PointLaws::point_of_lem, points::proofs::PointLaws::leg_before, points::proofs::PointLaws::latitude_read, points::proofs::PointLaws::longitude_read), unfolding(crate::specs::Measure::leg_into))]
 fn leg_into(t: &Entries, points: &[i32], i: usize) -> u64
     requires t_value { t.now ≡ sines }
     requires points_value { buffer_refusal points.now ≡ 0 }

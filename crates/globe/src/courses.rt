@@ -40,7 +40,7 @@ fn scaled(a: i64, b: i64) -> i64
 }
 
 // N.
-#[tactic(auto, using(signed::specs::Machine::kept, ticks::specs::TickLaws::latitude_angle, crate::specs::AngleLaws::cosine_top, crate::specs::CourseLaws::around_top, crate::specs::CourseLaws::offset_cosine_latitude), unfolding(crate::specs::Course::eastward))]
+#[tactic(auto, using(signed::specs::Machine::kept, ticks::proofs::TickLaws::latitude_angle, crate::proofs::AngleLaws::cosine_top, crate::proofs::CourseLaws::around_top, crate::proofs::CourseLaws::offset_cosine_latitude), unfolding(crate::specs::Course::eastward))]
 fn eastward(t: &Entries, end: i64, offset: i64) -> i64
     requires t_value { t.now ≡ sines }
     requires end_value { is_latitude end ≡ true }
@@ -51,7 +51,7 @@ fn eastward(t: &Entries, end: i64, offset: i64) -> i64
 }
 
 // D.
-#[tactic(auto, using(signed::specs::Machine::kept, ticks::specs::TickLaws::latitude_angle, crate::specs::AngleLaws::cosine_top, crate::specs::CourseLaws::around_top, crate::specs::CourseLaws::offset_cosine_top, crate::specs::CourseLaws::offset_cosine_latitude, crate::specs::CourseLaws::back_top, crate::specs::CourseLaws::north_fits), unfolding(crate::specs::Course::northward))]
+#[tactic(auto, using(signed::specs::Machine::kept, ticks::proofs::TickLaws::latitude_angle, crate::proofs::AngleLaws::cosine_top, crate::proofs::CourseLaws::around_top, crate::proofs::CourseLaws::offset_cosine_top, crate::proofs::CourseLaws::offset_cosine_latitude, crate::proofs::CourseLaws::back_top, crate::proofs::CourseLaws::north_fits), unfolding(crate::specs::Course::northward))]
 fn northward(t: &Entries, start: i64, end: i64, offset: i64) -> i64
     requires t_value { t.now ≡ sines }
     requires start_value { is_latitude start ≡ true }
@@ -75,7 +75,7 @@ fn in_quarter(n: i64, d: i64, a: u32) -> u32
     }
 }
 
-#[tactic(auto, using(signed::specs::Tests::size_test, sines::specs::SlopeLaws::slope_inside), unfolding(crate::specs::Course::set_off, crate::specs::Course::course_by))]
+#[tactic(auto, using(signed::specs::Tests::size_test, sines::proofs::SlopeLaws::slope_inside), unfolding(crate::specs::Course::set_off, crate::specs::Course::course_by))]
 fn set_off(t: &Entries, n: i64, d: i64) -> Direction
     requires t_value { t.now ≡ sines }
     requires n_bound { nat_abs n ≤ most_size }
@@ -91,7 +91,7 @@ fn set_off(t: &Entries, n: i64, d: i64) -> Direction
 }
 
 // The course at which a leg starts.
-#[tactic(auto, using(refusals::specs::Tests::first_none, signed::specs::Machine::at64, signed::specs::Machine::kept, signed::specs::Machine::of_four, ticks::specs::TickLaws::point_accepted, crate::specs::AngleLaws::refused, crate::specs::CourseLaws::east_top, crate::specs::CourseLaws::north_top, crate::specs::CourseLaws::offset_angle), unfolding(crate::specs::Course::course_of))]
+#[tactic(auto, using(refusals::specs::Tests::first_none, signed::specs::Machine::at64, signed::specs::Machine::kept, signed::specs::Machine::of_four, ticks::proofs::TickLaws::point_accepted, crate::proofs::AngleLaws::refused, crate::proofs::CourseLaws::east_top, crate::proofs::CourseLaws::north_top, crate::proofs::CourseLaws::offset_angle), unfolding(crate::specs::Course::course_of))]
 pub(crate) fn course(
     t: &Entries,
     latitude: i32,

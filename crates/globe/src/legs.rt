@@ -60,7 +60,7 @@ fn half_east(longitude: i32, longitude2: i32) -> u32
 }
 
 // m × s / (2 × 10^9) with the product exact: it reaches 8 × 10^27, so s is split at 2 × 10^9 and each part fits.
-#[tactic(auto, using(crate::specs::LegLaws::split, crate::specs::LegLaws::high, crate::specs::LegLaws::low))]
+#[tactic(auto, using(crate::proofs::LegLaws::split, crate::proofs::LegLaws::high, crate::proofs::LegLaws::low))]
 fn scaled(m: u64, s: u64) -> u64
     requires m_le_leg_unit { m ≤ leg_unit }
     requires s_bound { s ≤ leg_unit * leg_unit }
@@ -70,7 +70,7 @@ fn scaled(m: u64, s: u64) -> u64
 }
 
 // H, from m and the two half angles: at most 8 × 10^18.
-#[tactic(auto, using(crate::specs::LegLaws::square_top, crate::specs::LegLaws::chord_top))]
+#[tactic(auto, using(crate::proofs::LegLaws::square_top, crate::proofs::LegLaws::chord_top))]
 fn chord_of(t: &Entries, m: u64, p: u32, q: u32) -> u64
     requires t_value { t.now ≡ sines }
     requires m_le_leg_unit { m ≤ leg_unit }
@@ -84,7 +84,7 @@ fn chord_of(t: &Entries, m: u64, p: u32, q: u32) -> u64
 }
 
 // The greatest angle up to 90 degrees, in half ticks, whose short sine is at most `r`: its long sine is below (r + 1) × 5,000.
-#[tactic(auto, using(sines::specs::SineLaws::some_halves, sines::specs::BackLaws::last_angle_top, sines::specs::BackLaws::greatest_angle_lem))]
+#[tactic(auto, using(sines::proofs::SineLaws::some_halves, sines::proofs::BackLaws::last_angle_top, sines::proofs::BackLaws::greatest_angle_lem))]
 fn greatest_angle(t: &Entries, r: u64) -> u32
     requires { t.now ≡ sines }
     ensures { result ≡ greatest_angle r }
@@ -103,7 +103,7 @@ fn length_of(t: &Entries, h: u64) -> u64
     greatest_angle(t, root(h)) as u64 * DEGREE_LENGTH / DEGREE
 }
 
-#[tactic(auto, using(crate::specs::LegLaws::north_top, crate::specs::LegLaws::east_top, crate::specs::LegLaws::product_top), unfolding(crate::specs::Leg::leg_length))]
+#[tactic(auto, using(crate::proofs::LegLaws::north_top, crate::proofs::LegLaws::east_top, crate::proofs::LegLaws::product_top), unfolding(crate::specs::Leg::leg_length))]
 pub(crate) fn leg_length(
     t: &Entries,
     latitude: i32,
@@ -135,7 +135,7 @@ pub(crate) fn ends_refusal(latitude: i32, longitude: i32, latitude2: i32, longit
 }
 
 // The length of a leg.
-#[tactic(auto, using(refusals::specs::Tests::first_none, signed::specs::Machine::of_four, ticks::specs::TickLaws::point_accepted, crate::specs::AngleLaws::refused), unfolding(crate::specs::Leg::leg_of))]
+#[tactic(auto, using(refusals::specs::Tests::first_none, signed::specs::Machine::of_four, ticks::proofs::TickLaws::point_accepted, crate::proofs::AngleLaws::refused), unfolding(crate::specs::Leg::leg_of))]
 pub(crate) fn leg(
     t: &Entries,
     latitude: i32,

@@ -36,7 +36,7 @@ pub(crate) fn entry(t: &Entries, k: usize) -> u64
 }
 
 // f × (entry k+1 - entry k) is below 400,000 × 10^13, which fits.
-#[tactic(auto, using(sines::specs::Rules::growth, sines::specs::Rules::last, sines::specs::Rules::entry_top, sines::specs::SineLaws::long_sine_half_quarter), unfolding(sines::specs::Sine::sine_by, sines::specs::SineLaws::between))]
+#[tactic(auto, using(sines::proofs::Rules::growth, sines::proofs::Rules::last, sines::proofs::Rules::entry_top, sines::proofs::SineLaws::long_sine_half_quarter), unfolding(sines::specs::Sine::sine_by, sines::specs::SineLaws::between))]
 pub(crate) fn long_sine_half_of(t: &Entries, a: u32) -> u64
     requires t_value { t.now ≡ sines }
     requires a_le_quarter_halves { a ≤ quarter_halves }
@@ -51,7 +51,7 @@ pub(crate) fn long_sine_half_of(t: &Entries, a: u32) -> u64
     low + (a % STEP_HALVES) as u64 * gap / STEP_HALVES as u64
 }
 
-#[tactic(auto, using(sines::specs::SineLaws::halves))]
+#[tactic(auto, using(sines::proofs::SineLaws::halves))]
 pub(crate) fn long_sine_of(t: &Entries, a: u32) -> u64
     requires t_value { t.now ≡ sines }
     requires a_le_quarter { a ≤ quarter }
@@ -68,7 +68,7 @@ pub(crate) fn short_sine_of(t: &Entries, a: u32) -> u64
     long_sine_of(t, a) / SHORTENING
 }
 
-#[tactic(auto, using(signed::specs::Machine::at64, signed::specs::SignLaws::as_fits, signed::specs::SignLaws::nearest_self, sines::specs::SineLaws::long_sine_top, ticks::specs::TickLaws::latitude_size))]
+#[tactic(auto, using(signed::specs::Machine::at64, signed::specs::SignLaws::as_fits, signed::specs::SignLaws::nearest_self, sines::proofs::SineLaws::long_sine_top, ticks::proofs::TickLaws::latitude_size))]
 pub(crate) fn signed_long_sine(t: &Entries, a: i32) -> i64
     requires t_value { t.now ≡ sines }
     requires a_value { is_latitude a ≡ true }
@@ -87,7 +87,7 @@ pub(crate) fn short_cosine(t: &Entries, latitude: i32) -> u64
 }
 
 // 10^13 times the sine of an angle from -180 to 180 degrees.
-#[tactic(auto, using(signed::specs::Machine::kept, ticks::specs::TickLaws::latitude_fits, ticks::specs::TickLaws::folded_latitude))]
+#[tactic(auto, using(signed::specs::Machine::kept, ticks::proofs::TickLaws::latitude_fits, ticks::proofs::TickLaws::folded_latitude))]
 pub(crate) fn long_around(t: &Entries, angle: i64) -> i64
     requires t_value { t.now ≡ sines }
     requires angle_value { is_angle angle ≡ true }
@@ -129,7 +129,7 @@ pub(crate) fn short_sine(t: &Entries, angle: i32) -> Sine
     Sine::Value(short_around(t, a))
 }
 
-#[tactic(auto, using(refusals::specs::Tests::passed, refusals::specs::Tests::failed, sines::specs::SineLaws::some_halves, sines::specs::SineLaws::sine_by_top, crate::specs::AngleLaws::halves_size), unfolding(crate::specs::Angle::long_sine_half_of))]
+#[tactic(auto, using(refusals::specs::Tests::passed, refusals::specs::Tests::failed, sines::proofs::SineLaws::some_halves, sines::proofs::SineLaws::sine_by_top, crate::proofs::AngleLaws::halves_size), unfolding(crate::specs::Angle::long_sine_half_of))]
 pub(crate) fn long_sine_half(t: &Entries, halves: i32) -> Sine
     requires { t.now ≡ sines }
     ensures { result ≡ long_sine_half_of halves }

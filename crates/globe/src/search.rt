@@ -9,7 +9,7 @@ use sines::Entries;
 
 // The last row whose entry is at most `y`: it is among the `rows` from `low` on. A turn goes on alike from either half, so that it
 // compiles to no branch, since none could be foretold.
-#[tactic(auto, using(sines::specs::Rules::first, sines::specs::Rules::rising))]
+#[tactic(auto, using(sines::proofs::Rules::first, sines::proofs::Rules::rising))]
 fn last_row(t: &Entries, y: u64) -> usize
     requires { t.now ≡ sines }
     ensures { LastRow y result }
@@ -28,7 +28,7 @@ fn last_row(t: &Entries, y: u64) -> usize
 
 // The last angle up to 90 degrees, in half ticks, whose long sine is at most `y`. Off the last row `y` is below the next entry, which is at most
 // 10^13, so that the product fits.
-#[tactic(auto, using(sines::specs::Rules::last, sines::specs::Rules::entry_top, sines::specs::SineLaws::some_halves, sines::specs::BackLaws::last_angle_top, sines::specs::BackLaws::gap_some, sines::specs::BackLaws::units, sines::specs::BackLaws::last_angle))]
+#[tactic(auto, using(sines::proofs::Rules::last, sines::proofs::Rules::entry_top, sines::proofs::SineLaws::some_halves, sines::proofs::BackLaws::last_angle_top, sines::proofs::BackLaws::gap_some, sines::proofs::BackLaws::units, sines::proofs::BackLaws::last_angle))]
 pub(crate) fn last_half(t: &Entries, y: u64) -> u32
     requires { t.now ≡ sines }
     ensures { LastAngle step_halves y result }
@@ -44,7 +44,7 @@ pub(crate) fn last_half(t: &Entries, y: u64) -> u32
 }
 
 // The same in ticks.
-#[tactic(auto, using(sines::specs::BackLaws::whole_ticks))]
+#[tactic(auto, using(sines::proofs::BackLaws::whole_ticks))]
 pub(crate) fn last_angle(t: &Entries, y: u64) -> u32
     requires { t.now ≡ sines }
     ensures { LastAngle step y result }

@@ -15,7 +15,7 @@ use sines::Entries;
 use ticks::{into_turn, is_latitude, is_longitude, offset, sheet_refusal};
 
 // x is the offset, y the long sine of the latitude.
-#[tactic(auto, using(signed::specs::Machine::kept, ticks::specs::TickLaws::sheet_accepted, crate::specs::AngleLaws::refused, crate::specs::SheetLaws::times_one), unfolding(crate::specs::Sheet::place_of))]
+#[tactic(auto, using(signed::specs::Machine::kept, ticks::proofs::TickLaws::sheet_accepted, crate::proofs::AngleLaws::refused, crate::proofs::SheetLaws::times_one), unfolding(crate::specs::Sheet::place_of))]
 pub(crate) fn cylindrical(t: &Entries, latitude: i32, longitude: i32, meridian: i32) -> Place
     requires { t.now ≡ sines }
     ensures { result ≡ cylindrical_of latitude longitude meridian }
@@ -28,7 +28,7 @@ pub(crate) fn cylindrical(t: &Entries, latitude: i32, longitude: i32, meridian: 
 }
 
 // x is the offset × the short cosine of the latitude, at most 1.8 × 10^18; y is the latitude.
-#[tactic(auto, using(signed::specs::Machine::at64, signed::specs::Machine::kept, ticks::specs::TickLaws::sheet_accepted, ticks::specs::TickLaws::offset_longitude, ticks::specs::TickLaws::product_fits, crate::specs::AngleLaws::refused, crate::specs::AngleLaws::cosine_top), unfolding(crate::specs::Sheet::place_of))]
+#[tactic(auto, using(signed::specs::Machine::at64, signed::specs::Machine::kept, ticks::proofs::TickLaws::sheet_accepted, ticks::proofs::TickLaws::offset_longitude, ticks::proofs::TickLaws::product_fits, crate::proofs::AngleLaws::refused, crate::proofs::AngleLaws::cosine_top), unfolding(crate::specs::Sheet::place_of))]
 pub(crate) fn sinusoidal(t: &Entries, latitude: i32, longitude: i32, meridian: i32) -> Place
     requires { t.now ≡ sines }
     ensures { result ≡ sinusoidal_of latitude longitude meridian }
@@ -45,7 +45,7 @@ pub(crate) fn sinusoidal(t: &Entries, latitude: i32, longitude: i32, meridian: i
 }
 
 // The latitude has the sign of y, and its size is the angle whose long sine is the size of y.
-#[tactic(auto, using(signed::specs::Machine::at64, signed::specs::Machine::kept, signed::specs::SignLaws::as_size, signed::specs::SignLaws::as_fits, signed::specs::SignLaws::nearest_self, refusals::specs::Tests::passed, refusals::specs::Tests::failed, ticks::specs::TickLaws::size_latitude, ticks::specs::TickLaws::latitude_fits, crate::specs::SheetLaws::back_nobody, crate::specs::SheetLaws::back_at, crate::specs::SheetLaws::latitude_is, crate::specs::SheetLaws::height_is, crate::specs::SheetLaws::sine_is), unfolding(crate::specs::Sheet::back_of))]
+#[tactic(auto, using(signed::specs::Machine::at64, signed::specs::Machine::kept, signed::specs::SignLaws::as_size, signed::specs::SignLaws::as_fits, signed::specs::SignLaws::nearest_self, refusals::specs::Tests::passed, refusals::specs::Tests::failed, ticks::proofs::TickLaws::size_latitude, ticks::proofs::TickLaws::latitude_fits, crate::proofs::SheetLaws::back_nobody, crate::proofs::SheetLaws::back_at, crate::proofs::SheetLaws::latitude_is, crate::proofs::SheetLaws::height_is, crate::proofs::SheetLaws::sine_is), unfolding(crate::specs::Sheet::back_of))]
 pub(crate) fn cylindrical_back(t: &Entries, x: i64, y: i64, meridian: i32) -> Point
     requires { t.now ≡ sines }
     ensures { result ≡ cylindrical_back_of x y meridian }
@@ -61,7 +61,7 @@ pub(crate) fn cylindrical_back(t: &Entries, x: i64, y: i64, meridian: i32) -> Po
     point_at(with_sign_of(y, a as u64) as i32, 1, x, meridian)
 }
 
-#[tactic(auto, using(signed::specs::Machine::at32, signed::specs::Machine::at64, refusals::specs::Tests::passed, refusals::specs::Tests::failed, ticks::specs::TickLaws::latitude_fits, crate::specs::AngleLaws::cosine_top, crate::specs::SheetLaws::back_nobody, crate::specs::SheetLaws::back_at), unfolding(crate::specs::Sheet::back_of))]
+#[tactic(auto, using(signed::specs::Machine::at32, signed::specs::Machine::at64, refusals::specs::Tests::passed, refusals::specs::Tests::failed, ticks::proofs::TickLaws::latitude_fits, crate::proofs::AngleLaws::cosine_top, crate::proofs::SheetLaws::back_nobody, crate::proofs::SheetLaws::back_at), unfolding(crate::specs::Sheet::back_of))]
 pub(crate) fn sinusoidal_back(t: &Entries, x: i64, y: i64, meridian: i32) -> Point
     requires { t.now ≡ sines }
     ensures { result ≡ sinusoidal_back_of x y meridian }
@@ -78,7 +78,7 @@ pub(crate) fn sinusoidal_back(t: &Entries, x: i64, y: i64, meridian: i32) -> Poi
 }
 
 // The point at a latitude whose offset × `width` is `x`.
-#[tactic(auto, using(signed::specs::Tests::eq_eq_z, signed::specs::Tests::ne_eq_z, signed::specs::Machine::at64, signed::specs::Machine::kept, signed::specs::Machine::quot_fits, signed::specs::Machine::exact_fits, signed::specs::Machine::same_bits, refusals::specs::Tests::passed, refusals::specs::Tests::failed, ticks::specs::TickLaws::is_longitude_lem, ticks::specs::TickLaws::longitude_fits, ticks::specs::TickLaws::sum_fits, ticks::specs::TickLaws::sum_longitude))]
+#[tactic(auto, using(signed::specs::Tests::eq_eq_z, signed::specs::Tests::ne_eq_z, signed::specs::Machine::at64, signed::specs::Machine::kept, signed::specs::Machine::quot_fits, signed::specs::Machine::exact_fits, signed::specs::Machine::same_bits, refusals::specs::Tests::passed, refusals::specs::Tests::failed, ticks::proofs::TickLaws::is_longitude_lem, ticks::proofs::TickLaws::longitude_fits, ticks::proofs::TickLaws::sum_fits, ticks::proofs::TickLaws::sum_longitude))]
 fn point_at(latitude: i32, width: u64, x: i64, meridian: i32) -> Point
     requires width_le_short_unit { width ≤ short_unit }
     requires meridian_value { is_longitude meridian ≡ true }

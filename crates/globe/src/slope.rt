@@ -15,7 +15,7 @@ const STEP: u64 = crate::lookup::STEP as u64;
 
 // The last row at whose first angle the short sine × `d` is at most the short cosine × `n`: it is among the `rows` from `low` on. Each product
 // is at most 2 × 10^18.
-#[tactic(auto, using(sines::specs::Rules::entry_top, sines::specs::Halving::start, sines::specs::Halving::upper, sines::specs::Halving::lower, sines::specs::Halving::done, sines::specs::SlopeLaws::at_zero, sines::specs::SlopeRows::row_falls, sines::specs::SlopeRows::row_test, sines::specs::SlopeRows::short_product), unfolding(sines::specs::SlopeRows::slope_row))]
+#[tactic(auto, using(sines::proofs::Rules::entry_top, sines::proofs::Halving::start, sines::proofs::Halving::upper, sines::proofs::Halving::lower, sines::proofs::Halving::done, sines::proofs::SlopeLaws::at_zero, sines::proofs::SlopeRows::row_falls, sines::proofs::SlopeRows::row_test, sines::proofs::SlopeRows::short_product), unfolding(sines::specs::SlopeRows::slope_row))]
 fn last_row(t: &Entries, d: u64, n: u64) -> usize
     requires t_value { t.now ≡ sines }
     requires d_le_most_size { d ≤ most_size }
@@ -45,7 +45,7 @@ fn share(low: u64, gap: u64, f: u64) -> u64
 }
 
 // The last angle of row `k`: it is among the `left` from `f` on. The cosine runs down the mirrored row.
-#[tactic(auto, using(sines::specs::Halving::upper, sines::specs::Halving::lower, sines::specs::Halving::done, sines::specs::SlopeLaws::falls, sines::specs::SlopeRows::rise_top, sines::specs::SlopeRows::mirror, sines::specs::SlopeRows::mirror_next, sines::specs::SlopeRows::share_top, sines::specs::SlopeRows::in_test, sines::specs::SlopeRows::row_within), unfolding(sines::specs::Slope::slope_of))]
+#[tactic(auto, using(sines::proofs::Halving::upper, sines::proofs::Halving::lower, sines::proofs::Halving::done, sines::proofs::SlopeLaws::falls, sines::proofs::SlopeRows::rise_top, sines::proofs::SlopeRows::mirror, sines::proofs::SlopeRows::mirror_next, sines::proofs::SlopeRows::share_top, sines::proofs::SlopeRows::in_test, sines::proofs::SlopeRows::row_within), unfolding(sines::specs::Slope::slope_of))]
 fn in_row(t: &Entries, d: u64, n: u64, k: usize) -> u32
     requires t_value { t.now ≡ sines }
     requires d_le_most_size { d ≤ most_size }
@@ -71,7 +71,7 @@ fn in_row(t: &Entries, d: u64, n: u64, k: usize) -> u32
     (k as u64 * STEP + f) as u32
 }
 
-#[tactic(auto, using(sines::specs::SlopeRows::row_top, sines::specs::SlopeRows::row_quarter))]
+#[tactic(auto, using(sines::proofs::SlopeRows::row_top, sines::proofs::SlopeRows::row_quarter))]
 pub(crate) fn slope(t: &Entries, d: u64, n: u64) -> u32
     requires t_value { t.now ≡ sines }
     requires d_le_most_size { d ≤ most_size }

@@ -5,7 +5,4 @@ pub mod Paper
 pub mod DigitLaws
 pub mod NumberLaws
 pub mod Written
-pub mod WrittenLaws
-pub mod Promises
 pub mod Text
-pub mod Figures

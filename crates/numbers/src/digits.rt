@@ -29,7 +29,7 @@ fn is_digit(b: u8) -> bool
 }
 
 // The digits that stand first, at most `most`, read on from those that make `n`.
-#[tactic(auto, using(refusals::specs::Tests::and_true, crate::specs::DigitLaws::digit_range, crate::specs::DigitLaws::leading_next, crate::specs::DigitLaws::leading_stop, crate::specs::DigitLaws::leading_done))]
+#[tactic(auto, using(refusals::specs::Tests::and_true, crate::proofs::DigitLaws::digit_range, crate::proofs::DigitLaws::leading_next, crate::proofs::DigitLaws::leading_stop, crate::proofs::DigitLaws::leading_done))]
 fn leading(s: &[u8], most: usize, n: u64) -> Digits
     requires { (n + 1) * 10 ^ most ≤ 10 ^ most_digits }
     ensures many { result.count ≡ length (leading most s.now) }
@@ -68,7 +68,7 @@ fn scaled(n: u64, tens: usize) -> u64
 }
 
 // Digits, then nothing, or the mark and digits.
-#[tactic(auto, using(refusals::specs::Tests::or_false, crate::specs::DigitLaws::value_first, crate::specs::DigitLaws::leading_most, crate::specs::DigitLaws::leading_within, crate::specs::NumberLaws::no_digit, crate::specs::NumberLaws::wholes_room, crate::specs::NumberLaws::places_room, crate::specs::NumberLaws::plain_small, crate::specs::NumberLaws::plain_none, crate::specs::NumberLaws::plain_other, crate::specs::NumberLaws::plain_whole, crate::specs::NumberLaws::plain_bad, crate::specs::NumberLaws::plain_both))]
+#[tactic(auto, using(refusals::specs::Tests::or_false, crate::proofs::DigitLaws::value_first, crate::proofs::DigitLaws::leading_most, crate::proofs::DigitLaws::leading_within, crate::proofs::NumberLaws::no_digit, crate::proofs::NumberLaws::wholes_room, crate::proofs::NumberLaws::places_room, crate::proofs::NumberLaws::plain_small, crate::proofs::NumberLaws::plain_none, crate::proofs::NumberLaws::plain_other, crate::proofs::NumberLaws::plain_whole, crate::proofs::NumberLaws::plain_bad, crate::proofs::NumberLaws::plain_both))]
 pub(crate) fn plain(s: &[u8], kind: Kind, mark: Mark) -> Amount
     ensures { result ≡ amount_of kind (named_byte mark) s.now }
 {

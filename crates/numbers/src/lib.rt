@@ -102,7 +102,7 @@ fn fault(text: &[u8], mark: Mark) -> u32
 }
 
 // The number that a field says. A number holds no other mark, so that is looked for only in a field that is none.
-#[tactic(auto, using(signed::specs::Machine::kept, crate::specs::NumberLaws::ranged_is, crate::specs::NumberLaws::plain_small, crate::specs::NumberLaws::past_within, crate::specs::NumberLaws::number_value, crate::specs::NumberLaws::number_fault, crate::specs::NumberLaws::answered_refused))]
+#[tactic(auto, using(signed::specs::Machine::kept, crate::proofs::NumberLaws::ranged_is, crate::proofs::NumberLaws::plain_small, crate::proofs::NumberLaws::past_within, crate::proofs::NumberLaws::number_value, crate::proofs::NumberLaws::number_fault, crate::proofs::NumberLaws::answered_refused))]
 pub fn read(text: &[u8], kind: Kind, mark: Mark) -> Number
     ensures { result ≡ number_of kind mark text.now }
 {

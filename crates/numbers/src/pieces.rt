@@ -55,7 +55,7 @@ pub fn find(s: &[u8], b: u8) -> usize
 }
 
 // `b` stands anywhere.
-#[tactic(auto, using(crate::specs::PieceLaws::holds_index))]
+#[tactic(auto, using(crate::proofs::PieceLaws::holds_index))]
 pub fn has(s: &[u8], b: u8) -> bool
     ensures { result ≡ holds b s.now }
 {
@@ -73,7 +73,7 @@ pub(crate) fn starts(s: &[u8], b: u8) -> bool
 }
 
 // The one byte is `b`.
-#[tactic(auto, using(crate::specs::PieceLaws::byte_one, crate::specs::PieceLaws::byte_other))]
+#[tactic(auto, using(crate::proofs::PieceLaws::byte_one, crate::proofs::PieceLaws::byte_other))]
 pub fn is_byte(s: &[u8], b: u8) -> bool
     ensures { result ≡ is_byte b s.now }
 {
@@ -84,7 +84,7 @@ pub fn is_byte(s: &[u8], b: u8) -> bool
 }
 
 // Byte by byte.
-#[tactic(auto, using(crate::specs::PieceLaws::same_next, crate::specs::PieceLaws::same_stop, crate::specs::PieceLaws::same_end, crate::specs::PieceLaws::same_long))]
+#[tactic(auto, using(crate::proofs::PieceLaws::same_next, crate::proofs::PieceLaws::same_stop, crate::proofs::PieceLaws::same_end, crate::proofs::PieceLaws::same_long))]
 pub fn equal(a: &[u8], b: &[u8]) -> bool
     ensures { result ≡ same a.now b.now }
 {

@@ -1,11 +1,5 @@
 pub mod Numeral
-pub mod NumeralLaws
 pub mod NumeralSteps
 pub mod OneWay
-pub mod OneWayLaws
 pub mod Output
-pub mod OutputLaws
-pub mod Stands
 pub mod Paper
-pub mod Promises
-pub mod Figures

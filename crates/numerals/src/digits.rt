@@ -49,6 +49,7 @@ fn whole(n: u64) -> Digits
 }
 
 // The digits of `n`, up to the last that is not 0.
+#[tactic(auto, using(crate::proofs::NumeralSteps::shorn_off))]
 fn shorn(n: u64) -> Digits
     requires { n < 10 ^ most }
     ensures many { result.count ≡ length (digits true most n) }
@@ -100,6 +101,7 @@ pub(crate) fn cut(value: i32, kind: Kind) -> Parts
 }
 
 // How many bytes they are.
+#[tactic(auto, using(crate::proofs::NumeralSteps::parts_added))]
 pub(crate) fn bytes(parts: Parts) -> usize
     requires count_le_most { parts.whole.count ≤ most }
     requires count_le_most_2 { parts.decimals.count ≤ most }
@@ -153,6 +155,7 @@ fn put_decimals(out: &mut [u8], at: usize, decimals: Digits, mark: u8)
     put_digits(out, at + 1, decimals);
 }
 
+#[tactic(auto, using(crate::proofs::NumeralSteps::parts_length, crate::proofs::NumeralSteps::after_all))]
 pub(crate) fn put(out: &mut [u8], parts: Parts, mark: u8)
     requires value_bound { parts.whole.value < 10 ^ most }
     requires value_bound_2 { parts.decimals.value < 10 ^ most }

@@ -28,6 +28,7 @@ pub struct WritingOut {
 }
 
 // How many bytes the text of a value has, under either mark.
+#[tactic(auto, using(crate::proofs::NumeralSteps::any_mark))]
 pub fn size(value: i32, kind: Kind) -> usize
     ensures { result ≡ length (numeral_of kind M.Point value) }
 {
@@ -35,6 +36,7 @@ pub fn size(value: i32, kind: Kind) -> usize
 }
 
 // The text of a value into the start of the output, which has to have room for all of it.
+#[tactic(auto, using(crate::proofs::NumeralSteps::any_mark, crate::proofs::OutputLaws::room_refused, crate::proofs::OutputLaws::text_written, crate::proofs::OutputLaws::output_sets))]
 pub fn write(value: i32, kind: Kind, mark: Mark, out: &mut [u8]) -> Writing
     ensures answer { result ≡ writing_of 0 (numeral_of kind mark value) 0 out.old }
     ensures left { out.new ≡ output_of 0 (numeral_of kind mark value) 0 out.old }

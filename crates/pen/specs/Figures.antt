@@ -5,7 +5,7 @@ use Rattle.std.proofs.Common.{ap, ◌∙◌}
 use Rattle.std.specs.Int.Count.{count_trailing_zeros}
 use Rattle.std.specs.Float.{inf, binary64}
 use Rattle.std.specs.Float.Ieee.{lt, le, eq, round, size, span, climb, units, odd, div, of_int, of_bits, of_fields}
-use Rattle.globe.specs.Figures.{sinusoidal_60_10}
+use Rattle.globe.proofs.Figures.{sinusoidal_60_10}
 use Rattle.pen.specs.declared.Window.{Window}
 use Rattle.pen.specs.Position.{millimetres, across}
 use Rattle.pen.specs.Pen.{new_pen, drawn, step_at, step_of}

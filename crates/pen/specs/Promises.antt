@@ -17,9 +17,9 @@ use Rattle.ticks.specs.Ticks.{is_latitude, is_longitude, offset_of, point_refusa
 use Rattle.globe.specs.declared.Place.{Place}
 use Rattle.globe.specs.declared.Place.TheVariants as P
 use Rattle.globe.specs.Angle.{short_cosine}
-use Rattle.globe.specs.AngleLaws.{cosine_mirror}
+use Rattle.globe.proofs.AngleLaws.{cosine_mirror}
 use Rattle.globe.specs.Sheet.{sinusoid, place_of, sinusoidal_of}
-use Rattle.globe.specs.SheetLaws.{place_tells}
+use Rattle.globe.proofs.SheetLaws.{place_tells}
 use Rattle.pen.specs.declared.Window.{Window}
 use Rattle.pen.specs.declared.Pen.{Pen}
 use Rattle.pen.specs.declared.StepOut.{StepOut}

@@ -13,11 +13,11 @@ use Rattle.globe.specs.Leg.{degree, degree_length}
 use Rattle.globe.specs.declared.Place.TheVariants.{At}
 use Rattle.ticks.specs.Ticks.{half, is_latitude, is_longitude, offset_of}
 use Rattle.refusals.specs.Tests.{and_true}
-use Rattle.ticks.specs.TickLaws.{latitude_size, offset_longitude}
+use Rattle.ticks.proofs.TickLaws.{latitude_size, offset_longitude}
 use Rattle.globe.specs.Angle.{short_cosine}
-use Rattle.globe.specs.AngleLaws.{cosine_top}
+use Rattle.globe.proofs.AngleLaws.{cosine_top}
 use Rattle.globe.specs.Sheet.{sinusoid, sinusoidal_of}
-use Rattle.globe.specs.SheetLaws.{place_tells}
+use Rattle.globe.proofs.SheetLaws.{place_tells}
 use Rattle.pen.specs.Position.{millimetres, across}
 
 -- no place lies further from the middle than half a turn, in ticks

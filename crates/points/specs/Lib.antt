@@ -1,3 +1,1 @@
 pub mod Points
-pub mod PointLaws
-pub mod Promises

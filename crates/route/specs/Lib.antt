@@ -1,10 +1,6 @@
-pub mod Figures
 pub mod Line
 pub mod LineLaws
 pub mod Paper
-pub mod Promises
-pub mod ReadsLaws
 pub mod Route
-pub mod RouteLaws
 pub mod WalkLaws
 pub mod Words

@@ -67,7 +67,7 @@ fn read_header(line: &[u8]) -> Header
     Header::Unknown
 }
 
-#[tactic(auto, unfolding(crate::specs::Route::reading_of, crate::specs::Route::buffer_of))]
+#[tactic(auto, using(crate::proofs::WalkLaws::too_long, crate::proofs::WalkLaws::no_line, crate::proofs::WalkLaws::unknown, crate::proofs::WalkLaws::named), unfolding(crate::specs::Route::reading_of, crate::specs::Route::buffer_of))]
 fn read_text(text: &[u8], own: &mut [i32], lent: &mut [i32]) -> Reading
     requires { numbers * most_points ≤ length own.old }
     ensures answer { result ≡ reading_of text.now (length lent.old) }

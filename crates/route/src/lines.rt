@@ -52,7 +52,7 @@ fn gap(kind: &[u8], before: u8) -> Line
     Line::Gap
 }
 
-#[tactic(auto, unfolding(crate::specs::Line::target_of))]
+#[tactic(auto, using(signed::specs::Machine::kept, numbers::proofs::NumberLaws::number_size), unfolding(crate::specs::Line::target_of))]
 fn target(kind: &[u8], field: &[u8], mark: Mark, before: u8) -> Line
     ensures { result ≡ target_of mark before kind.now field.now }
 {
@@ -70,7 +70,7 @@ fn target(kind: &[u8], field: &[u8], mark: Mark, before: u8) -> Line
     Line::Target(METRE * size64(metres))
 }
 
-#[tactic(auto, unfolding(crate::specs::Line::point_of))]
+#[tactic(auto, using(signed::specs::Machine::kept, signed::specs::Machine::at32, ticks::proofs::TickLaws::latitude_fits, ticks::proofs::TickLaws::longitude_fits, numbers::proofs::NumberLaws::number_in, numbers::proofs::NumberLaws::latitude_in, numbers::proofs::NumberLaws::longitude_in), unfolding(crate::specs::Line::point_of))]
 fn point(kind: &[u8], first: &[u8], second: &[u8], mark: Mark, points: u32) -> Line
     ensures { result ≡ point_of mark points kind.now first.now second.now }
 {
@@ -92,6 +92,7 @@ fn point(kind: &[u8], first: &[u8], second: &[u8], mark: Mark, points: u32) -> L
 }
 
 // The number of fields decides which kind the line can be.
+#[tactic(auto, using(numbers::proofs::PieceLaws::held_within, numbers::proofs::PieceLaws::none_held, crate::proofs::LineLaws::last_says, crate::proofs::LineLaws::one_field, crate::proofs::LineLaws::two_fields, crate::proofs::LineLaws::three_fields, crate::proofs::LineLaws::more_fields))]
 pub(crate) fn read_line(s: &[u8], mark: Mark, st: State) -> Line
     ensures { result ≡ fields_of mark st.before st.points (split TAB s.now) }
 {

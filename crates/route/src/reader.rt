@@ -45,6 +45,7 @@ fn ending(rest: &[u8], line: u32, st: State, room: usize) -> Judged
 }
 
 // The numbers of a line into our own buffer, behind those of the points so far.
+#[tactic(auto, using(points::proofs::PointLaws::put_in))]
 fn put_line(own: &mut [i32], st: State, line: Line)
     requires { numbers * st.points + length (numbers_of st line) ≤ length own.old }
     ensures { own.new ≡ sets own.old (numbers * st.points) (numbers_of st line) }
@@ -57,6 +58,7 @@ fn put_line(own: &mut [i32], st: State, line: Line)
 }
 
 // Each line is read once: it is judged, and its numbers go into a buffer of our own. The points are to have room for so many numbers.
+#[tactic(auto, using(numbers::proofs::PieceLaws::onward_less, crate::proofs::LineLaws::seen_line, crate::proofs::LineLaws::seen_after, crate::proofs::LineLaws::line_few, crate::proofs::LineLaws::line_counted, crate::proofs::WalkLaws::end_came, crate::proofs::WalkLaws::end_few, crate::proofs::WalkLaws::walk_last, crate::proofs::WalkLaws::walk_step, crate::proofs::WalkLaws::walk_refused))]
 fn read_lines(text: &[u8], mark: Mark, room: usize, own: &mut [i32]) -> Judged
     requires text_len_bound { length text.now ≤ most_bytes }
     requires most_points_in_bounds { numbers * most_points ≤ length own.old }
@@ -83,6 +85,7 @@ fn read_lines(text: &[u8], mark: Mark, room: usize, own: &mut [i32]) -> Judged
 }
 
 // The first `n` numbers of our own buffer into the lent one.
+#[tactic(auto, using(crate::proofs::WalkLaws::copy_step))]
 fn copy(own: &[i32], n: usize, buffer: &mut [i32])
     requires n_in_bounds { n ≤ length own.now }
     requires n_in_bounds_2 { n ≤ length buffer.old }
@@ -106,6 +109,7 @@ fn millimetres(length: Length) -> u64
 }
 
 // Nothing is written to the lent buffer before all lines are accepted and there is room for their points.
+#[tactic(auto, using(crate::specs::Route::accepted, crate::proofs::LineLaws::seen_count, crate::proofs::RouteLaws::walked, crate::proofs::RouteLaws::measured))]
 pub(crate) fn read_body(text: &[u8], mark: Mark, own: &mut [i32], buffer: &mut [i32]) -> Reading
     requires text_len_bound { length text.now ≤ most_bytes }
     requires most_points_in_bounds { numbers * most_points ≤ length own.old }

@@ -3,13 +3,13 @@
 -- Assumes nothing.
 use Rattle.std.specs.Prelude.{◌≡◌, pos, neg_ℤ}
 use Rattle.sines.specs.Table.{entry}
-use Rattle.sines.specs.Rules.{first, last}
-use Rattle.sines.specs.Figures.{entry_1, entry_1500}
+use Rattle.sines.proofs.Rules.{first, last}
+use Rattle.sines.proofs.Figures.{entry_1, entry_1500}
 use Rattle.globe.specs.Angle.{long_sine_of, short_sine_of}
 use Rattle.globe.specs.Sheet.{cylindrical_of, sinusoidal_of, cylindrical_back_of, sinusoidal_back_of}
 use Rattle.globe.specs.Leg.{leg_of}
 use Rattle.globe.specs.Paper.{sine_paper, place_paper, point_paper, length_paper}
-use Rattle.globe.specs.Figures as G
+use Rattle.globe.proofs.Figures as G
 
 pub record Figures : Type 0 where
   -- "entry 0 is 0, entry 1 is 3,490,658,433, entry 1500 is 5×10^12, entry 4500 is 10^13"

@@ -3,13 +3,9 @@ pub mod Rules
 pub mod Sine
 pub mod SineLaws
 pub mod Greatest
-pub mod GreatestLaws
 pub mod Least
-pub mod LeastLaws
-pub mod Halving
 pub mod Back
 pub mod BackLaws
 pub mod Slope
 pub mod SlopeLaws
 pub mod SlopeRows
-pub mod Figures

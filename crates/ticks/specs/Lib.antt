@@ -1,3 +1,1 @@
 pub mod Ticks
-pub mod TickLaws
-pub mod Promises

@@ -1,9 +1,4 @@
-pub mod Figures
 pub mod Paper
-pub mod Promises
 pub mod Room
-pub mod RoomLaws
-pub mod RoomPromises
 pub mod RouteText
-pub mod RouteTextLaws
 pub mod TextSteps

@@ -2,7 +2,7 @@
 -- Assumes nothing.
 use mathlib.Core.Path.{sym, ◌∙◌}
 use mir.Facts.{to_z-of_z}
-use Rattle.points.specs.PointLaws.{point_sets, put_in, put_past}
+use Rattle.points.proofs.PointLaws.{point_sets, put_in, put_past}
 use Rattle.points.proofs.put.Goals as goal
 
 pub returns-then-points-i : goal.returns-then-points-i

@@ -1,6 +1,6 @@
 -- `roots::digit` meets its contract. The loop's invariant: the digit after `d` does not fit. The measure is `d`. Assumes nothing.
 use Prim.Native.Nat.{◌-◌}
-use Rattle.roots.specs.SchoolLaws.{digit_is}
+use Rattle.roots.proofs.SchoolLaws.{digit_is}
 use Rattle.roots.proofs.digit.Goals as goal
 
 pub returns : goal.returns

@@ -2,7 +2,7 @@
 -- what is left up to 2^64. Assumes nothing.
 use native.Mathlib.Omega.{arith}
 use Prim.Native.Nat.{◌-◌}
-use Rattle.roots.specs.PairLaws.{further, some, at_first}
+use Rattle.roots.proofs.PairLaws.{further, some, at_first}
 use Rattle.roots.proofs.first_unit.Goals as goal
 
 pub loop-unit-smaller : goal.loop-unit-smaller

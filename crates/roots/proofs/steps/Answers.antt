@@ -2,8 +2,8 @@
 use Prim.Native.Nat.{◌+◌, ◌*◌, ◌/◌, ◌≤◌, ◌<◌, ◌^◌}
 use native.Mathlib.Omega.{arith}
 use Rattle.roots.specs.School.{taken}
-use Rattle.roots.specs.SchoolLaws.{found}
-use Rattle.roots.specs.StepLaws.{Bounds, sofar_start, bounds, next, finish}
+use Rattle.roots.proofs.SchoolLaws.{found}
+use Rattle.roots.proofs.StepLaws.{Bounds, sofar_start, bounds, next, finish}
 use Rattle.roots.proofs.steps.Goals as goal
 use Rattle.roots.proofs.steps.Goals.{After-digit-d, In-loop-unit}
 

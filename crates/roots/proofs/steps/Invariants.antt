@@ -1,5 +1,5 @@
 -- `roots::steps` meets its contract. The loop's invariant is `Sofar`, the measure is `unit`. Assumes nothing.
-use Rattle.roots.specs.StepLaws.{Sofar}
+use Rattle.roots.proofs.StepLaws.{Sofar}
 use Rattle.roots.proofs.steps.Given as goal
 
 abbrev pub invariant-loop-unit : goal.invariant-loop-unit

@@ -7,8 +7,8 @@ use borrow.Author.Rules.{rules}
 use Rattle.refusals.specs.Choice.{first_of}
 use Rattle.numerals.specs.declared.Writing.TheVariants as W
 use Rattle.writer.specs.RouteText.{text_refusal}
-use Rattle.writer.specs.TextSteps.{text_either}
-use Rattle.writer.specs.RoomLaws.{size_refused, size_told}
+use Rattle.writer.proofs.TextSteps.{text_either}
+use Rattle.writer.proofs.RoomLaws.{size_refused, size_told}
 use Rattle.writer.proofs.size.Statement.{statement}
 use Rattle.writer.proofs.size.Tie as tie
 

@@ -7,10 +7,10 @@ use native.Mathlib.Omega.{arith}
 use borrow.Author.Rules.{rules}
 use lib.ListN.{length}
 use Rattle.numerals.specs.declared.Writing.TheVariants as W
-use Rattle.numerals.specs.OutputLaws.{room_refused, text_written, output_kept, output_sets}
+use Rattle.numerals.proofs.OutputLaws.{room_refused, text_written, output_kept, output_sets}
 use Rattle.writer.specs.RouteText.{route_text, text_refusal}
-use Rattle.writer.specs.RouteTextLaws.{text_accepted, text_length}
-use Rattle.writer.specs.RoomLaws.{told_size, refused_size}
+use Rattle.writer.proofs.RouteTextLaws.{text_accepted, text_length}
+use Rattle.writer.proofs.RoomLaws.{told_size, refused_size}
 use Rattle.writer.proofs.write.Statement.{statement}
 use Rattle.writer.proofs.write.Tie as tie
 

@@ -12,7 +12,7 @@ use mir.Val.{of_z}
 use Rattle.signed.specs.Tests.{eq_z}
 use Rattle.signed.specs.Machine.{bits_test}
 use Rattle.points.specs.Points.{third_at}
-use Rattle.points.specs.PointLaws.{Point, point_of_lem, leg_before}
+use Rattle.points.proofs.PointLaws.{Point, point_of_lem, leg_before}
 use Rattle.globe.proofs.buffer.leg_into.Goals as goal
 use Rattle.globe.proofs.buffer.leg_into.Goals.{Else-third-eq1, Start}
 

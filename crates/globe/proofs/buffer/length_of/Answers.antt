@@ -1,7 +1,7 @@
 use Rattle.std.proofs.Common.{suc, arith}
-use Rattle.points.specs.PointLaws.{accepted}
+use Rattle.points.proofs.PointLaws.{accepted}
 use Rattle.globe.specs.Measure.{length_up_to}
-use Rattle.globe.specs.MeasureLaws.{length_longest}
+use Rattle.globe.proofs.MeasureLaws.{length_longest}
 use Rattle.globe.proofs.buffer.length_of.Goals as goal
 
 pub overflow_add-sum : goal.overflow_add-sum

@@ -1,12 +1,12 @@
 use Rattle.std.proofs.Common.{ltb, ◌≡◌, ℕ, suc, ◌+◌, ◌≤◌, ◌<◌, List, ℤ, ap, arith}
 use borrow.Author.Tests.{ltb-true, ltb-false, lt-ltb, le-leb, lt-leb}
 use Rattle.refusals.specs.Tests.{and_true}
-use Rattle.sines.specs.LeastLaws.{least_is}
+use Rattle.sines.proofs.LeastLaws.{least_is}
 use Rattle.points.specs.Points.{count}
-use Rattle.points.specs.PointLaws.{accepted}
+use Rattle.points.proofs.PointLaws.{accepted}
 use Rattle.globe.specs.declared.Met.TheVariants.{Yes, No}
 use Rattle.globe.specs.Measure.{length_up_to}
-use Rattle.globe.specs.MeasureLaws.{length_longest, length_grows}
+use Rattle.globe.proofs.MeasureLaws.{length_longest, length_grows}
 use Rattle.globe.specs.Met.{reaches, looked_at, walked}
 use Rattle.globe.proofs.buffer.walk.Goals as goal
 use Rattle.globe.proofs.buffer.walk.Goals.{After-loop-sum}

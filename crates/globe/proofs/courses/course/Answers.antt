@@ -4,10 +4,10 @@ use mir.Facts.{to_z-of_z}
 use Rattle.refusals.specs.Tests.{first_none}
 use Rattle.signed.specs.Machine.{at64, kept, of_four}
 use Rattle.ticks.specs.Ticks.{offset_of}
-use Rattle.ticks.specs.TickLaws.{point_accepted}
+use Rattle.ticks.proofs.TickLaws.{point_accepted}
 use Rattle.globe.specs.Leg.{ends_refusal}
 use Rattle.globe.specs.Course.{northward}
-use Rattle.globe.specs.CourseLaws.{north_top, offset_angle}
+use Rattle.globe.proofs.CourseLaws.{north_top, offset_angle}
 use Rattle.globe.proofs.courses.course.Goals as goal
 
 pub set_off-requires-clause-d_bound : goal.set_off-requires-clause-d_bound

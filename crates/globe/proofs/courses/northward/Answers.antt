@@ -3,7 +3,7 @@ use mir.Facts.{to_z-of_z}
 use Rattle.signed.specs.Machine.{kept}
 use Rattle.globe.specs.Angle.{short_cosine, short_around}
 use Rattle.globe.specs.Course.{over, offset_cosine, northward}
-use Rattle.globe.specs.CourseLaws.{offset_cosine_top, offset_cosine_latitude, back_top, north_fits}
+use Rattle.globe.proofs.CourseLaws.{offset_cosine_top, offset_cosine_latitude, back_top, north_fits}
 use Rattle.globe.proofs.courses.northward.Goals as goal
 use Rattle.globe.proofs.courses.northward.Goals.{After-scaled-rise, After-scaled-back, After-offset_cosine-3, After-scaled}
 

@@ -1,8 +1,8 @@
 -- `globe::legs::greatest_angle` meets its contract. Assumes nothing.
 use Prim.Native.Nat.{◌+◌, ◌*◌}
 use native.Mathlib.Omega.{arith}
-use Rattle.sines.specs.SineLaws.{some_halves}
-use Rattle.sines.specs.BackLaws.{last_angle_top, greatest_angle_lem}
+use Rattle.sines.proofs.SineLaws.{some_halves}
+use Rattle.sines.proofs.BackLaws.{last_angle_top, greatest_angle_lem}
 use Rattle.globe.proofs.legs.greatest_angle.Goals as goal
 
 pub returns-then-r-ge-LEG_UNIT : goal.returns-then-r-ge-LEG_UNIT

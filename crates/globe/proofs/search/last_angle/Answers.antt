@@ -1,5 +1,5 @@
 -- `globe::search::last_angle` meets its contract: from the last half tick. Assumes nothing.
-use Rattle.sines.specs.BackLaws.{whole_ticks}
+use Rattle.sines.proofs.BackLaws.{whole_ticks}
 use Rattle.globe.proofs.search.last_angle.Goals as goal
 
 pub returns : goal.returns

@@ -7,9 +7,9 @@ use Rattle.signed.specs.SignLaws.{as_size, as_fits, nearest_self}
 use Rattle.sines.specs.BackLaws.{LastAngle}
 use Rattle.sines.specs.Sine.{step, long_sine}
 use Rattle.ticks.specs.Ticks.{is_latitude, is_longitude}
-use Rattle.ticks.specs.TickLaws.{size_latitude, latitude_fits}
+use Rattle.ticks.proofs.TickLaws.{size_latitude, latitude_fits}
 use Rattle.globe.specs.Sheet.{cylinder}
-use Rattle.globe.specs.SheetLaws.{back_nobody, back_at, latitude_is, height_is, sine_is}
+use Rattle.globe.proofs.SheetLaws.{back_nobody, back_at, latitude_is, height_is, sine_is}
 use Rattle.globe.proofs.sheet.cylindrical_back.Goals as goal
 use Rattle.globe.proofs.sheet.cylindrical_back.Goals.{After-with_sign_of}
 

@@ -8,7 +8,7 @@ use Rattle.refusals.specs.Tests.{told}
 use Rattle.signed.specs.Tests.{eq_eq_z, ne_eq_z}
 use Rattle.signed.specs.Machine.{at64, kept, quot_fits, exact_fits, same_bits}
 use Rattle.ticks.specs.Ticks.{is_longitude, turned}
-use Rattle.ticks.specs.TickLaws.{is_longitude_lem, longitude_fits, sum_longitude, sum_fits}
+use Rattle.ticks.proofs.TickLaws.{is_longitude_lem, longitude_fits, sum_longitude, sum_fits}
 use Rattle.globe.proofs.sheet.point_at.Goals as goal
 use Rattle.globe.proofs.sheet.point_at.Goals.{After-into_turn-longitude}
 

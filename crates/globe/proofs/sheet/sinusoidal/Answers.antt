@@ -4,9 +4,9 @@ use mir.ValLaws.{to_z_pos}
 use mir.Facts.{to_z-of_z}
 use Rattle.signed.specs.Machine.{at64, kept}
 use Rattle.ticks.specs.Ticks.{offset_of, sheet_refusal}
-use Rattle.ticks.specs.TickLaws.{sheet_accepted, offset_longitude, product_fits}
+use Rattle.ticks.proofs.TickLaws.{sheet_accepted, offset_longitude, product_fits}
 use Rattle.globe.specs.Angle.{short_cosine}
-use Rattle.globe.specs.AngleLaws.{cosine_top}
+use Rattle.globe.proofs.AngleLaws.{cosine_top}
 use Rattle.globe.specs.Sheet.{place_of}
 use Rattle.globe.proofs.sheet.sinusoidal.Goals as goal
 use Rattle.globe.proofs.sheet.sinusoidal.Goals.{After-offset}

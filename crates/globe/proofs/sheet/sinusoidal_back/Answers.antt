@@ -3,9 +3,9 @@ use mir.Facts.{to_z-of_z}
 use Rattle.refusals.specs.Tests.{told, clash}
 use Rattle.signed.specs.Machine.{at32, at64}
 use Rattle.ticks.specs.Ticks.{is_latitude, is_longitude}
-use Rattle.ticks.specs.TickLaws.{latitude_fits}
+use Rattle.ticks.proofs.TickLaws.{latitude_fits}
 use Rattle.globe.specs.Sheet.{sinusoid}
-use Rattle.globe.specs.SheetLaws.{back_nobody, back_at}
+use Rattle.globe.proofs.SheetLaws.{back_nobody, back_at}
 use Rattle.globe.proofs.sheet.sinusoidal_back.Goals as goal
 
 pub returns-then-not-is_latitude : goal.returns-then-not-is_latitude

@@ -1,10 +1,10 @@
 use Rattle.std.proofs.Common.{◌≡◌, ℕ, ◌+◌, ◌-◌, ◌*◌, ◌/◌, ◌≤◌, ◌∙◌, arith}
 use borrow.Author.Tests.{le-leb, lt-leb}
 use Rattle.sines.specs.Sine.{step}
-use Rattle.sines.specs.Halving.{upper, lower, done}
+use Rattle.sines.proofs.Halving.{upper, lower, done}
 use Rattle.sines.specs.Slope.{slope_of}
-use Rattle.sines.specs.SlopeLaws.{falls}
-use Rattle.sines.specs.SlopeRows.{in_test}
+use Rattle.sines.proofs.SlopeLaws.{falls}
+use Rattle.sines.proofs.SlopeRows.{in_test}
 use Rattle.globe.proofs.slope.in_row.Goals as goal
 use Rattle.globe.proofs.slope.in_row.Goals.{then-share-d, else-share-d}
 

@@ -3,7 +3,7 @@
 -- Assumes nothing.
 use Prim.Native.Nat.{◌+◌, ◌-◌, ◌*◌, ◌≤◌}
 use Rattle.sines.specs.Sine.{step, quarter}
-use Rattle.sines.specs.Halving.{Within}
+use Rattle.sines.proofs.Halving.{Within}
 use Rattle.sines.specs.Slope.{reaches}
 use Rattle.globe.proofs.slope.in_row.Given as goal
 

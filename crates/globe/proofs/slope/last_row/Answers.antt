@@ -1,7 +1,8 @@
 use Rattle.std.proofs.Common.{◌+◌, ◌/◌, ◌∙◌, arith}
 use borrow.Author.Tests.{le-leb, lt-leb}
-use Rattle.sines.specs.Halving.{upper, lower, done}
-use Rattle.sines.specs.SlopeRows.{slope_row, row_falls, row_test}
+use Rattle.sines.proofs.Halving.{upper, lower, done}
+use Rattle.sines.specs.SlopeRows.{slope_row}
+use Rattle.sines.proofs.SlopeRows.{row_falls, row_test}
 use Rattle.globe.proofs.slope.last_row.Goals as goal
 use Rattle.globe.proofs.slope.last_row.Goals.{then-entry-d, else-entry-d}
 

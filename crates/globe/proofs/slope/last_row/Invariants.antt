@@ -2,7 +2,7 @@
 -- Assumes nothing.
 use Prim.Native.Nat.{◌-◌}
 use Rattle.sines.specs.Rules.{rows}
-use Rattle.sines.specs.Halving.{Within}
+use Rattle.sines.proofs.Halving.{Within}
 use Rattle.sines.specs.SlopeRows.{row_reaches}
 use Rattle.globe.proofs.slope.last_row.Given as goal
 

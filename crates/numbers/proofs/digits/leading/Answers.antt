@@ -1,7 +1,8 @@
 use Rattle.std.proofs.Common.{◌≡◌, ℕ, suc, ◌+◌, ◌-◌, ◌*◌, ◌^◌, ◌≤◌, ◌<◌, ◌&&◌, true, false, ltb, List, [], length, drop, get_or, sym, ap, ◌∙◌, lit<, arith, ltb-true}
 use native.Mathlib.Nat.{add-zero, mul-le-mul_left, mul-le-mul_right, one-le-pow, pow-suc}
 use Rattle.refusals.specs.Tests.{and_true}
-use Rattle.numbers.specs.DigitLaws.{most_digits, is_digit, leading, digit_range, leading_next, leading_stop}
+use Rattle.numbers.specs.DigitLaws.{most_digits, is_digit, leading}
+use Rattle.numbers.proofs.DigitLaws.{digit_range, leading_next, leading_stop}
 use Rattle.numbers.proofs.digits.leading.Goals as goal
 use Rattle.numbers.proofs.digits.leading.Goals.{Else-not-is_digit}
 

@@ -7,8 +7,10 @@ use Rattle.numbers.specs.declared.digits.Amount.{Amount}
 use Rattle.numbers.specs.declared.digits.Amount.TheVariants as A
 use Rattle.numbers.specs.PieceLaws.{onward}
 use Rattle.numbers.specs.Number.{named_byte, places, value_of}
-use Rattle.numbers.specs.DigitLaws.{value_from, value_first, leading, leading_within}
-use Rattle.numbers.specs.NumberLaws.{wholes, no_digit, amount_of, plain_small, plain_both}
+use Rattle.numbers.specs.DigitLaws.{value_from, leading}
+use Rattle.numbers.proofs.DigitLaws.{value_first, leading_within}
+use Rattle.numbers.specs.NumberLaws.{wholes, amount_of}
+use Rattle.numbers.proofs.NumberLaws.{no_digit, plain_small, plain_both}
 use Rattle.numbers.proofs.digits.plain.Goals as goal
 use Rattle.numbers.proofs.digits.plain.Goals.{Else-d-decimals}
 

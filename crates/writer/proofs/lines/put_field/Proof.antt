@@ -13,8 +13,8 @@ use Rattle.numerals.specs.declared.Writing.TheVariants as W
 use Rattle.numbers.specs.Pieces.{TAB}
 use Rattle.numerals.specs.Paper.{writing_paper}
 use Rattle.numerals.specs.Numeral.{numeral_of}
-use Rattle.numerals.specs.Stands.{lent, lent_length, sets_lent, put_back, Stands, stands_none, stands_byte, stands_more, stands_length, stands_all}
-use Rattle.numerals.specs.OutputLaws.{text_written, output_sets}
+use Rattle.numerals.proofs.Stands.{lent, lent_length, sets_lent, put_back, Stands, stands_none, stands_byte, stands_more, stands_length, stands_all}
+use Rattle.numerals.proofs.OutputLaws.{text_written, output_sets}
 use Rattle.writer.proofs.lines.put_field.Statement.{statement}
 use Rattle.writer.proofs.lines.put_field.Tie as tie
 

@@ -2,7 +2,7 @@
 -- Assumes nothing.
 use native.Mathlib.Omega.{arith}
 use borrow.Author.Rules.{rules}
-use Rattle.writer.specs.RouteTextLaws.{header_length}
+use Rattle.writer.proofs.RouteTextLaws.{header_length}
 use Rattle.writer.proofs.lines.put_header.Statement.{statement}
 use Rattle.writer.proofs.lines.put_header.Tie as tie
 

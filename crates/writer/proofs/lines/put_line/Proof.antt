@@ -9,9 +9,9 @@ use lib.ListN.{set, length, length-append}
 use mir.Facts.{to_z-of_z}
 use Rattle.numbers.specs.declared.Kind.TheVariants as K
 use Rattle.numbers.specs.Pieces.{LF}
-use Rattle.numerals.specs.Stands.{Stands, stands_none, stands_byte, stands_more, stands_length, stands_all}
+use Rattle.numerals.proofs.Stands.{Stands, stands_none, stands_byte, stands_more, stands_length, stands_all}
 use Rattle.writer.specs.RouteText.{field_of}
-use Rattle.writer.specs.RouteTextLaws.{point_length}
+use Rattle.writer.proofs.RouteTextLaws.{point_length}
 use Rattle.writer.proofs.lines.put_line.Statement.{statement}
 use Rattle.writer.proofs.lines.put_line.Tie as tie
 

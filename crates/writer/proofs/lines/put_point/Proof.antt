@@ -13,9 +13,10 @@ use mir.Val.{to_z, of_z}
 use Rattle.signed.specs.Machine.{kept}
 use Rattle.points.specs.Points.{latitude_at, longitude_at}
 use Rattle.numbers.specs.Pieces.{LF}
-use Rattle.numerals.specs.Stands.{Stands, stands_none, stands_byte, stands_more, stands_length, stands_as, stands_all}
+use Rattle.numerals.proofs.Stands.{Stands, stands_none, stands_byte, stands_more, stands_length, stands_as, stands_all}
 use Rattle.writer.specs.RouteText.{point_line}
-use Rattle.writer.specs.TextSteps.{point_text, with_gap, without_gap}
+use Rattle.writer.specs.TextSteps.{point_text}
+use Rattle.writer.proofs.TextSteps.{with_gap, without_gap}
 use Rattle.writer.proofs.lines.put_point.Statement.{statement}
 use Rattle.writer.proofs.lines.put_point.Tie as tie
 

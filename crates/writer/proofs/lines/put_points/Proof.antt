@@ -9,9 +9,10 @@ use lib.IntN.{ℤ}
 use lib.ListN.{length}
 use lib.Seq.{sets}
 use Rattle.points.specs.Points.{count}
-use Rattle.numerals.specs.Stands.{Stands, stands_none, stands_more, stands_length, stands_as, stands_all}
+use Rattle.numerals.proofs.Stands.{Stands, stands_none, stands_more, stands_length, stands_as, stands_all}
 use Rattle.writer.specs.RouteText.{point_lines, ended}
-use Rattle.writer.specs.TextSteps.{point_text, points_more, points_size, points_grow}
+use Rattle.writer.specs.TextSteps.{point_text}
+use Rattle.writer.proofs.TextSteps.{points_more, points_size, points_grow}
 use Rattle.writer.proofs.lines.put_points.Statement.{statement}
 use Rattle.writer.proofs.lines.put_points.Tie as tie
 

@@ -14,11 +14,11 @@ use mir.Val.{to_z}
 use mir.Facts.{to_z_pos}
 use Rattle.numbers.specs.declared.Kind.TheVariants as K
 use Rattle.numbers.specs.Pieces.{LF}
-use Rattle.numerals.specs.Stands.{Stands, stands_none, stands_byte, stands_more, stands_length, stands_as, stands_all}
+use Rattle.numerals.proofs.Stands.{Stands, stands_none, stands_byte, stands_more, stands_length, stands_as, stands_all}
 use Rattle.route.specs.declared.Target.{Target}
 use Rattle.route.specs.Line.{metre}
 use Rattle.writer.specs.RouteText.{field_of, target_lines, ended}
-use Rattle.writer.specs.RouteTextLaws.{IsTarget, target_accepted}
+use Rattle.writer.proofs.RouteTextLaws.{IsTarget, target_accepted}
 use Rattle.writer.proofs.lines.put_target.Statement.{statement}
 use Rattle.writer.proofs.lines.put_target.Tie as tie
 

@@ -7,10 +7,10 @@ use native.Mathlib.Omega.{arith}
 use borrow.Author.Rules.{rules}
 use lib.ListN.{length, length-append}
 use Rattle.points.specs.Points.{count}
-use Rattle.numerals.specs.Stands.{Stands, stands_none, stands_more, stands_length, stands_as, stands_all}
+use Rattle.numerals.proofs.Stands.{Stands, stands_none, stands_more, stands_length, stands_as, stands_all}
 use Rattle.route.specs.Words.{header_text}
 use Rattle.writer.specs.RouteText.{target_lines, point_lines, ended, route_text}
-use Rattle.writer.specs.RouteTextLaws.{text_parts}
+use Rattle.writer.proofs.RouteTextLaws.{text_parts}
 use Rattle.writer.proofs.lines.put_text.Statement.{statement}
 use Rattle.writer.proofs.lines.put_text.Tie as tie
 

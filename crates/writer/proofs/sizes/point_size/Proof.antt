@@ -13,7 +13,7 @@ use Rattle.points.specs.Points.{latitude_at, longitude_at}
 use Rattle.numbers.specs.declared.Mark.TheVariants as M
 use Rattle.numbers.specs.declared.Kind.TheVariants as K
 use Rattle.numerals.specs.Numeral.{numeral_of}
-use Rattle.writer.specs.TextSteps.{size_with, size_without, latitude_most, longitude_most}
+use Rattle.writer.proofs.TextSteps.{size_with, size_without, latitude_most, longitude_most}
 use Rattle.writer.proofs.sizes.point_size.Statement.{statement}
 use Rattle.writer.proofs.sizes.point_size.Tie as tie
 

@@ -8,11 +8,11 @@ use borrow.Author.Rules.{rules}
 use lib.IntN.{ℤ}
 use lib.ListN.{length}
 use Rattle.points.specs.Points.{count}
-use Rattle.points.specs.PointLaws.{accepted}
+use Rattle.points.proofs.PointLaws.{accepted}
 use Rattle.numbers.specs.declared.Mark.TheVariants as M
 use Rattle.writer.specs.RouteText.{point_lines, ended}
-use Rattle.writer.specs.RouteTextLaws.{points_most}
-use Rattle.writer.specs.TextSteps.{points_size}
+use Rattle.writer.proofs.RouteTextLaws.{points_most}
+use Rattle.writer.proofs.TextSteps.{points_size}
 use Rattle.writer.proofs.sizes.points_size.Statement.{statement}
 use Rattle.writer.proofs.sizes.points_size.Tie as tie
 

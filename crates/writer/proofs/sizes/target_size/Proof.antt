@@ -15,7 +15,7 @@ use Rattle.numerals.specs.Numeral.{numeral_of}
 use Rattle.route.specs.declared.Target.{Target}
 use Rattle.route.specs.Line.{metre}
 use Rattle.writer.specs.RouteText.{target_lines, ended}
-use Rattle.writer.specs.RouteTextLaws.{IsTarget, target_accepted, target_length, target_most}
+use Rattle.writer.proofs.RouteTextLaws.{IsTarget, target_accepted, target_length, target_most}
 use Rattle.writer.proofs.sizes.target_size.Statement.{statement}
 use Rattle.writer.proofs.sizes.target_size.Tie as tie
 

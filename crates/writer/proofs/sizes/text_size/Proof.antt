@@ -2,7 +2,7 @@
 -- Assumes nothing.
 use native.Mathlib.Omega.{arith}
 use Rattle.numbers.specs.declared.Mark.TheVariants as M
-use Rattle.writer.specs.RouteTextLaws.{text_accepted, text_length, text_short, target_most}
+use Rattle.writer.proofs.RouteTextLaws.{text_accepted, text_length, text_short, target_most}
 use Rattle.writer.proofs.sizes.text_size.Statement.{statement}
 use Rattle.writer.proofs.sizes.text_size.Tie as tie
 
