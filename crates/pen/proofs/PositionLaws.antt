@@ -17,7 +17,7 @@ use Rattle.std.specs.Int.Signed.{quot_z}
 use Rattle.signed.specs.Sides.{mul_neg, quot_neg}
 use Rattle.sines.specs.Sine.{short_unit}
 use Rattle.globe.specs.Leg.{degree, degree_length}
-use Rattle.pen.specs.FloatLaws.{eq_self}
+use Rattle.pen.proofs.FloatLaws.{eq_self}
 use Rattle.pen.specs.Position.{millimetres, across, float, scaled}
 
 -- ---- millimetres
