@@ -1,9 +1,4 @@
-pub mod FloatLaws
 pub mod Position
-pub mod PositionLaws
 pub mod Reach
 pub mod Pen
-pub mod PenLaws
 pub mod Paper
-pub mod Figures
-pub mod Promises

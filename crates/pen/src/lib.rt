@@ -89,6 +89,7 @@ impl Pen {
     }
 
     // The step at X and Y, which are millimetres on the sheet; a position is each divided once.
+    #[tactic(auto, using(crate::proofs::PenLaws::drawn_outside, crate::proofs::PenLaws::drawn_inside))]
     fn draw(self, window: Window, divisor: u32, x: f64, y: f64, third: i32) -> Step
         ensures { result ≡ drawn self window divisor third x y }
     {
@@ -113,6 +114,7 @@ impl Pen {
     }
 
     // The step at a point whose third number is 0 where the leg into it is drawn. A refusal hands back the pen it got.
+    #[tactic(auto, using(signed::specs::Machine::kept, crate::proofs::PenLaws::no_window, crate::proofs::PenLaws::no_divisor, crate::proofs::PenLaws::step_placed, crate::proofs::Reach::place_within))]
     pub fn step(
         self,
         window: Window,

@@ -9,7 +9,7 @@ use Rattle.globe.proofs.Figures.{sinusoidal_60_10}
 use Rattle.pen.specs.declared.Window.{Window}
 use Rattle.pen.specs.Position.{millimetres, across}
 use Rattle.pen.specs.Pen.{new_pen, drawn, step_at, step_of}
-use Rattle.pen.specs.PenLaws.{step_placed}
+use Rattle.pen.proofs.PenLaws.{step_placed}
 use Rattle.pen.specs.Paper.{pen_paper, step_paper}
 
 abbrev pub infinite_window : Window

@@ -23,12 +23,12 @@ use Rattle.globe.proofs.SheetLaws.{place_tells}
 use Rattle.pen.specs.declared.Window.{Window}
 use Rattle.pen.specs.declared.Pen.{Pen}
 use Rattle.pen.specs.declared.StepOut.{StepOut}
-use Rattle.pen.specs.FloatLaws.{no_nan, le_lt}
+use Rattle.pen.proofs.FloatLaws.{no_nan, le_lt}
 use Rattle.pen.specs.Position.{millimetres, across, float}
-use Rattle.pen.specs.PositionLaws.{is_plain, nearest, across_mirror, millimetres_mirror, float_number, position_nearest, plain, nearest_mirror}
-use Rattle.pen.specs.Reach.{millimetres_within, across_within, place_within}
+use Rattle.pen.proofs.PositionLaws.{is_plain, nearest, across_mirror, millimetres_mirror, float_number, position_nearest, plain, nearest_mirror}
+use Rattle.pen.proofs.Reach.{millimetres_within, across_within, place_within}
 use Rattle.pen.specs.Pen.{is_window, is_divisor, inside, new_pen, drawn, step_at, step_of}
-use Rattle.pen.specs.PenLaws.{Accepted, Says, refused, accepted, says, by_stroke}
+use Rattle.pen.proofs.PenLaws.{Accepted, Says, refused, accepted, says, by_stroke}
 use Rattle.pen.specs.Paper.{pen_of, pen_paper, step_paper, stepped}
 
 -- ---- the words of the promises, apart from the step

@@ -17,7 +17,7 @@ use Rattle.std.specs.Int.Signed.{quot_z}
 use Rattle.signed.specs.Sides.{mul_neg, quot_neg}
 use Rattle.sines.specs.Sine.{short_unit}
 use Rattle.globe.specs.Leg.{degree, degree_length}
-use Rattle.pen.specs.FloatLaws.{eq_self}
+use Rattle.pen.proofs.FloatLaws.{eq_self}
 use Rattle.pen.specs.Position.{millimetres, across, float, scaled}
 
 -- ---- millimetres
@@ -52,6 +52,10 @@ round_neg f s n d = rw (round_is f (not s) n d, round_is f s n d) (units_neg f s
 -- the quotient of two whole numbers that the format holds is rounded once
 quotient : (x y : Float) (s : Bool) (n d : ℕ) → 0 < d → HasValue x s n 1 → HasValue y false d 1 → div binary64 x y ≡ round binary64 s n d
 unfolding div
+quotient nan y s n d h v w = elim v [ ]
+quotient (inf t) y s n d h v w = elim v [ ]
+quotient (fin t m e) nan s n d h v w = elim w [ ]
+quotient (fin t m e) (inf k) s n d h v w = elim w [ ]
 quotient (fin t m e) (fin true k g) s n d h v w = absurd (true≢false w.0)
 quotient (fin t m e) (fin false zero g) s n d h v w = absurd (positive_of_value (fin false zero g) d 1 w h)
 quotient (fin t m e) (fin false (suc k) g) s n d h v w =
@@ -82,6 +86,8 @@ pub float_number : (z : ℤ) → nat_abs z ≤ 2 ^ 53 → is_nan (float z) ≡ f
 float_number z h = go (float z) (float_value z h)
   where
     go : (x : Float) → HasValue x (is_negative z) (nat_abs z) 1 → is_nan x ≡ false
+    go nan v = elim v [ ]
+    go (inf s) v = elim v [ ]
     go (fin s m e) v = unfold is_nan in refl
 
 -- a finite number that is not minus zero
@@ -93,6 +99,9 @@ is_plain (fin true m e) = ltb 0 m
 
 positive_plain : (x : Float) → T (positive x) → T (is_plain x) × T (is_plain (neg x))
 unfolding neg
+positive_plain nan h = elim h [ ]
+positive_plain (inf s) h = elim h [ ]
+positive_plain (fin true m e) h = elim h [ ]
 positive_plain (fin false m e) h = (tt, h)
 
 module _ (d : ℕ) (least : 1 ≤ d) (most : d ≤ 2 ^ 53) where
@@ -127,6 +136,8 @@ module _ (d : ℕ) (least : 1 ≤ d) (most : d ≤ 2 ^ 53) where
   number z h = go (nearest d z) (nearest_plain z h)
     where
       go : (x : Float) → T (is_plain x) → is_nan x ≡ false
+      go nan p = elim p [ ]
+      go (inf s) p = elim p [ ]
       go (fin s m e) p = unfold is_nan in refl
 
   -- it mirrors that of the opposite place
