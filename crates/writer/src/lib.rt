@@ -44,6 +44,7 @@ fn room(bytes: usize, place: usize) -> usize
 }
 
 // How many bytes the text of a route has, which `write` asks before it writes. They are as many under either mark.
+#[tactic(auto, using(crate::proofs::TextSteps::text_either, crate::proofs::RoomLaws::size_refused, crate::proofs::RoomLaws::size_told))]
 pub fn size(points: &[i32], target: Target, mark: Mark) -> Writing
     ensures { result ≡ size_of mark target points.now }
 {

@@ -25,6 +25,7 @@ fn bytes(writing: Writing) -> usize
 }
 
 // A value, and the tab before it.
+#[tactic(auto, using(numerals::proofs::Stands::lent_length, numerals::proofs::Stands::sets_lent, numerals::proofs::Stands::stands_none, numerals::proofs::Stands::stands_byte, numerals::proofs::Stands::stands_more, numerals::proofs::Stands::stands_length, numerals::proofs::Stands::stands_all, numerals::proofs::OutputLaws::text_written, numerals::proofs::OutputLaws::output_sets))]
 fn put_field(out: &mut [u8], at: usize, value: i32, kind: Kind, mark: Mark) -> usize
     requires { at + length (field_of kind mark value) ≤ length out.old }
     ensures next { result ≡ at + length (field_of kind mark value) }
@@ -48,6 +49,7 @@ fn put_bytes(out: &mut [u8], at: usize, s: &[u8]) -> usize
     at + i
 }
 
+#[tactic(auto, using(crate::proofs::RouteTextLaws::header_length))]
 fn put_header(out: &mut [u8], at: usize, mark: Mark) -> usize
     requires { at + length (ended (header_text mark ∷ [])) ≤ length out.old }
     ensures next { result ≡ at + length (ended (header_text mark ∷ [])) }
@@ -59,6 +61,7 @@ fn put_header(out: &mut [u8], at: usize, mark: Mark) -> usize
     }
 }
 
+#[tactic(auto, using(numerals::proofs::Stands::stands_none, numerals::proofs::Stands::stands_byte, numerals::proofs::Stands::stands_more, numerals::proofs::Stands::stands_length, numerals::proofs::Stands::stands_as, numerals::proofs::Stands::stands_all, crate::proofs::RouteTextLaws::target_accepted))]
 fn put_target(out: &mut [u8], at: usize, target: Target, mark: Mark) -> usize
     requires target_value { target_refusal target ≡ 0 }
     requires target_in_bounds { at + length (ended (target_lines mark target)) ≤ length out.old }
@@ -80,6 +83,7 @@ fn put_target(out: &mut [u8], at: usize, target: Target, mark: Mark) -> usize
     end + 1
 }
 
+#[tactic(auto, using(numerals::proofs::Stands::stands_none, numerals::proofs::Stands::stands_byte, numerals::proofs::Stands::stands_more, numerals::proofs::Stands::stands_length, numerals::proofs::Stands::stands_all, crate::proofs::RouteTextLaws::point_length))]
 fn put_line(out: &mut [u8], at: usize, latitude: i32, longitude: i32, mark: Mark) -> usize
     requires { at + length (point_line mark latitude longitude ++ LF ∷ []) ≤ length out.old }
     ensures next { result ≡ at + length (point_line mark latitude longitude ++ LF ∷ []) }

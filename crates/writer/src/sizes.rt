@@ -14,6 +14,7 @@ use route::{METRE, Target};
 // Line 1 with its LF.
 const HEADER: usize = 12;
 
+#[tactic(auto, using(crate::proofs::RouteTextLaws::target_accepted, crate::proofs::RouteTextLaws::target_length, crate::proofs::RouteTextLaws::target_most))]
 fn target_size(target: Target) -> usize
     requires { target_refusal target ≡ 0 }
     ensures { result ≡ length (ended (target_lines M.Point target)) }
@@ -26,6 +27,7 @@ fn target_size(target: Target) -> usize
 }
 
 // With the gap before it.
+#[tactic(auto, using(signed::specs::Machine::kept, crate::proofs::TextSteps::size_with, crate::proofs::TextSteps::size_without, crate::proofs::TextSteps::latitude_most, crate::proofs::TextSteps::longitude_most))]
 fn point_size(points: &[i32], i: usize) -> usize
     requires points_value { buffer_refusal points.now ≡ 0 }
     requires i_bound { i < count points.now }
@@ -41,6 +43,7 @@ fn point_size(points: &[i32], i: usize) -> usize
     line
 }
 
+#[tactic(auto, using(points::proofs::PointLaws::accepted, crate::proofs::RouteTextLaws::points_most, crate::proofs::TextSteps::points_size))]
 fn points_size(points: &[i32]) -> usize
     requires { buffer_refusal points.now ≡ 0 }
     ensures { result ≡ length (ended (point_lines M.Point points.now (count points.now))) }
@@ -55,6 +58,7 @@ fn points_size(points: &[i32]) -> usize
     sum
 }
 
+#[tactic(auto, using(crate::proofs::RouteTextLaws::text_accepted, crate::proofs::RouteTextLaws::text_length, crate::proofs::RouteTextLaws::text_short, crate::proofs::RouteTextLaws::target_most))]
 pub(crate) fn text_size(points: &[i32], target: Target) -> usize
     requires { text_refusal target points.now ≡ 0 }
     ensures { result ≡ length (route_text M.Point target points.now) }

@@ -1,0 +1,61 @@
+-- The tab, and what the number's writer leaves in the part that is lent to it.
+use Rattle.std.proofs.Common.{◌≡◌, refl, List, [], ◌∷◌, ℕ, suc, ◌+◌, ◌≤◌, length, ap, ◌∙◌, arith}
+use Rattle.std.proofs.Math.ListN.{set}
+use Rattle.std.proofs.lemmas.List.Edits.{sets}
+use mir.Facts.{to_z-of_z}
+use Rattle.numbers.specs.Pieces.{TAB}
+use Rattle.numerals.specs.declared.Writing.{Writing}
+use Rattle.numerals.specs.declared.Writing.TheVariants as W
+use Rattle.numerals.specs.Paper.{writing_paper}
+use Rattle.numerals.specs.Numeral.{numeral_of}
+use Rattle.numerals.specs.Output.{writing_of, output_of}
+use Rattle.numerals.proofs.Stands.{lent, lent_length, sets_lent, put_back, Stands, stands_none, stands_byte, stands_more, stands_length, stands_all}
+use Rattle.numerals.proofs.OutputLaws.{text_written, output_sets}
+use Rattle.writer.proofs.lines.put_field.Goals as goal
+
+module _ (out : List ℕ) (at : ℕ) (number : List ℕ) (h : at + suc (length number) ≤ length out) where
+  tabbed : Stands out at (TAB ∷ []) (at + 1) (set out at TAB)
+  tabbed = stands_byte (stands_none out at) TAB
+
+  room : at + 1 + length number ≤ length (set out at TAB)
+  room = omega (arith, h, stands_length tabbed)
+
+  abbrev part : List ℕ
+  part = lent (at + 1) (set out at TAB)
+
+  fits : length number ≤ length part
+  fits = omega (arith, room, lent_length (at + 1) (set out at TAB))
+
+  module _ (writing : Writing) (new : List ℕ) (answer : writing ≡ writing_of 0 number 0 part) (left : new ≡ output_of 0 number 0 part) where
+    many : (n : ℕ) → n ≡ (writing_paper writing).bytes → n ≡ length number
+    many n e = e ∙ ap (λ (w : Writing). (writing_paper w).bytes) (answer ∙ text_written 0 number 0 part refl (omega (arith, fits)))
+
+    all : Stands out at (TAB ∷ number) (at + 1 + length number) (put_back (at + 1) (set out at TAB) new)
+    all =
+        let e = left ∙ output_sets 0 number 0 part refl (omega (arith, fits)) in
+        stands_more tabbed number (refl, ap (put_back (at + 1) (set out at TAB)) e ∙ sets_lent (at + 1) (set out at TAB) number room)
+
+pub overflow_add-result : goal.overflow_add-result
+overflow_add-result c =
+    let a = c.args in
+    let number = numeral_of a.kind a.mark a.value in
+    let answer = rw (to_z-of_z c.ranges.value) at c.write.ensures.answer in
+    let left = rw (to_z-of_z c.ranges.value) at c.write.ensures.left in
+    let h = c.requires in
+    omega (arith, room a.out.now a.at number h, stands_length (tabbed a.out.now a.at number h), many a.out.now a.at number h c.write.result c.write.new.out answer left _ c.bytes.ensures)
+
+pub returns-clause-next : goal.returns-clause-next
+returns-clause-next c =
+    let a = c.args in
+    let number = numeral_of a.kind a.mark a.value in
+    let answer = rw (to_z-of_z c.ranges.value) at c.write.ensures.answer in
+    let left = rw (to_z-of_z c.ranges.value) at c.write.ensures.left in
+    omega (arith, many a.out.now a.at number c.requires c.write.result c.write.new.out answer left _ c.bytes.ensures)
+
+pub returns-clause-left : goal.returns-clause-left
+returns-clause-left c =
+    let a = c.args in
+    let number = numeral_of a.kind a.mark a.value in
+    let answer = rw (to_z-of_z c.ranges.value) at c.write.ensures.answer in
+    let left = rw (to_z-of_z c.ranges.value) at c.write.ensures.left in
+    (stands_all (all a.out.now a.at number c.requires c.write.result c.write.new.out answer left)).1
