@@ -5,7 +5,7 @@ use Rattle.std.proofs.lemmas.Bool.{cases_lt}
 use Rattle.std.specs.Io.KnownBytes.{Consumes, IsAtEnd}
 use Rattle.std.specs.declared.option.Option.{Option}
 use Rattle.route.specs.Route.{most_bytes, walk_of, reading_of, buffer_of, answer_of, left_by}
-use Rattle.route.specs.WalkLaws.{too_long}
+use Rattle.route.proofs.WalkLaws.{too_long}
 use Rattle.route.specs.declared.Reading.{Reading}
 use Rattle.streams.specs.Input.{CameOf}
 use Rattle.streams.specs.declared.Input.TheVariants as I
