@@ -1,6 +1,6 @@
 -- A read in place: what has come grows by what is read behind it.
 -- Assumes nothing.
-use Rattle.std.proofs.Common.{◌≡◌, ℕ, ◌+◌, ◌≤◌, List, ◌++◌, IfOk, Result, Ok, Err, length, take, drop, sym, ap, subst, ◌∙◌, drop_at}
+use Rattle.std.proofs.Common.{◌≡◌, ℕ, ◌+◌, List, ◌++◌, IfOk, Result, Ok, Err, length, take, drop, sym, ap, subst, ◌∙◌, drop_at}
 use Rattle.std.proofs.Math.Seq.{take-add}
 use Rattle.std.proofs.lemmas.List.{take-append-le}
 use Rattle.std.proofs.KnownBytes.{Consumes-trans}

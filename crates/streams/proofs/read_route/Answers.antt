@@ -1,4 +1,4 @@
-use Rattle.std.proofs.Common.{◌≡◌, ◌<◌, take, length, arith, length-take-le}
+use Rattle.std.proofs.Common.{◌≡◌, take, length, arith, length-take-le}
 use Rattle.streams.proofs.Known.{known}
 use Rattle.streams.proofs.read_route.Goals as goal
 
