@@ -1,6 +1,7 @@
 // The pen's figures: a stroke with the bits of its floats, or the refusal, then the next pen.
 use crate::{EAST, refused, text};
 use pen::{Answer, Pen, Step, Stroke, Window};
+use std::io;
 
 const SIXTY: i32 = 600_000_000;
 
@@ -15,43 +16,43 @@ fn pattern(x: f64) -> u64 {
     }
 }
 
-fn bits(x: f64) {
-    text(b"\t");
-    io::print_hex(1, pattern(x), 16);
+fn bits(rt: &impl Print, x: f64) -> io::Result<()> {
+    text(rt, b"\t")?;
+    print!(rt; "{:016x}", pattern(x))
 }
 
-fn stroke(s: Stroke) {
+fn stroke(rt: &impl Print, s: Stroke) -> io::Result<()> {
     match s {
-        Stroke::Outside => text(b"\toutside"),
+        Stroke::Outside => text(rt, b"\toutside"),
         Stroke::Move(x, y) => {
-            text(b"\tmove");
-            bits(x);
-            bits(y);
+            text(rt, b"\tmove")?;
+            bits(rt, x)?;
+            bits(rt, y)
         }
         Stroke::Line(x, y) => {
-            text(b"\tline");
-            bits(x);
-            bits(y);
+            text(rt, b"\tline")?;
+            bits(rt, x)?;
+            bits(rt, y)
         }
     }
 }
 
-fn next(p: Pen) {
+fn next(rt: &impl Print, p: Pen) -> io::Result<()> {
     if p.down {
-        text(b"\tdown\n");
+        text(rt, b"\tdown\n")
     } else {
-        text(b"\tup\n");
+        text(rt, b"\tup\n")
     }
 }
 
-fn step(name: &[u8], s: Step) {
-    text(name);
+fn step(rt: &impl Print, name: &[u8], s: Step) -> io::Result<()> {
+    text(rt, name)?;
     let answer = s.answer;
     match answer {
-        Answer::Drawn(drawn) => stroke(drawn),
-        Answer::Refused(n) => refused(n),
+        Answer::Drawn(drawn) => stroke(rt, drawn)?,
+        Answer::Refused(n) => refused(rt, n)?,
     }
-    next(s.next);
+    next(rt, s.next)
 }
 
 fn infinite() -> Window {
@@ -74,73 +75,105 @@ fn framed(left: f64, right: f64) -> Window {
     }
 }
 
-fn strokes() {
+fn strokes(rt: &impl Print) -> io::Result<()> {
     let w = infinite();
     let s = Pen::new().step(w, 1_000, 0, SIXTY, TEN, 0);
-    step(b"a new pen at 60 N 10 E", s);
+    step(rt, b"a new pen at 60 N 10 E", s)?;
     let p = s.next;
-    step(b"then at 60 N 10 W", p.step(w, 1_000, 0, SIXTY, -TEN, 0));
-    step(b"with third number 1", p.step(w, 1_000, 0, SIXTY, -TEN, 1));
-    step(b"with third number 2", p.step(w, 1_000, 0, SIXTY, -TEN, 2));
     step(
+        rt,
+        b"then at 60 N 10 W",
+        p.step(w, 1_000, 0, SIXTY, -TEN, 0),
+    )?;
+    step(
+        rt,
+        b"with third number 1",
+        p.step(w, 1_000, 0, SIXTY, -TEN, 1),
+    )?;
+    step(
+        rt,
+        b"with third number 2",
+        p.step(w, 1_000, 0, SIXTY, -TEN, 2),
+    )?;
+    step(
+        rt,
         b"with third number -1",
         p.step(w, 1_000, 0, SIXTY, -TEN, -1),
-    );
+    )
 }
 
-fn drops() {
+fn drops(rt: &impl Print) -> io::Result<()> {
     let w = infinite();
     let p = Pen { down: true };
-    step(b"60 N, 1 tick east", p.step(w, 1, 0, SIXTY, 1, 0));
-    step(b"50 N, 1 tick west", p.step(w, 1, 0, 500_000_000, -1, 0));
-    step(b"1 tick south, 2 ticks west", p.step(w, 1, 0, -1, -2, 0));
+    step(rt, b"60 N, 1 tick east", p.step(w, 1, 0, SIXTY, 1, 0))?;
     step(
+        rt,
+        b"50 N, 1 tick west",
+        p.step(w, 1, 0, 500_000_000, -1, 0),
+    )?;
+    step(
+        rt,
+        b"1 tick south, 2 ticks west",
+        p.step(w, 1, 0, -1, -2, 0),
+    )?;
+    step(
+        rt,
         b"90 S, meridian 5 E",
         p.step(w, 1_000_000, 50_000_000, -900_000_000, TEN, 0),
-    );
+    )
 }
 
-fn edges() {
+fn edges(rt: &impl Print) -> io::Result<()> {
     let p = Pen { down: true };
     let on = framed(555974635.0, 555974636.0);
     let beside = framed(555974635.5, 555974636.0);
-    step(b"on two edges", p.step(on, 1_000, 0, SIXTY, TEN, 0));
+    step(rt, b"on two edges", p.step(on, 1_000, 0, SIXTY, TEN, 0))?;
     let s = p.step(beside, 1_000, 0, SIXTY, TEN, 0);
-    step(b"half a millimetre outside", s);
-    step(b"then inside", s.next.step(on, 1_000, 0, SIXTY, TEN, 0));
+    step(rt, b"half a millimetre outside", s)?;
+    step(rt, b"then inside", s.next.step(on, 1_000, 0, SIXTY, TEN, 0))?;
     step(
+        rt,
         b"inside only after the division",
         p.step(framed(555974.0, 555975.0), 1_000, 0, SIXTY, TEN, 0),
-    );
+    )
 }
 
-fn window_refusals() {
+fn window_refusals(rt: &impl Print) -> io::Result<()> {
     let p = Pen { down: true };
     let far = 1.0 / 0.0;
     let nan = far - far;
-    step(b"left NaN", p.step(framed(nan, 1.0), 0, 0, 0, 0, 0));
-    step(b"right NaN", p.step(framed(0.0, nan), 1, 0, 0, 0, 0));
-    step(b"from 0 to -0", p.step(framed(0.0, -0.0), 1, 0, 0, 0, 0));
-    step(b"both infinite", p.step(framed(far, far), 1, 0, 0, 0, 0));
+    step(rt, b"left NaN", p.step(framed(nan, 1.0), 0, 0, 0, 0, 0))?;
+    step(rt, b"right NaN", p.step(framed(0.0, nan), 1, 0, 0, 0, 0))?;
+    step(
+        rt,
+        b"from 0 to -0",
+        p.step(framed(0.0, -0.0), 1, 0, 0, 0, 0),
+    )?;
+    step(
+        rt,
+        b"both infinite",
+        p.step(framed(far, far), 1, 0, 0, 0, 0),
+    )
 }
 
-fn refusals() {
+fn refusals(rt: &impl Print) -> io::Result<()> {
     let w = infinite();
     let p = Pen { down: true };
-    step(b"divisor 0", p.step(w, 0, EAST, EAST, EAST, 0));
-    step(b"divisor 1,000,001", p.step(w, 1_000_001, 0, 0, 0, 0));
-    step(b"meridian 180", p.step(w, 1, EAST, EAST, EAST, 0));
+    step(rt, b"divisor 0", p.step(w, 0, EAST, EAST, EAST, 0))?;
+    step(rt, b"divisor 1,000,001", p.step(w, 1_000_001, 0, 0, 0, 0))?;
+    step(rt, b"meridian 180", p.step(w, 1, EAST, EAST, EAST, 0))?;
     step(
+        rt,
         b"latitude 90.0000001",
         p.step(w, 1, 0, 900_000_001, EAST, 0),
-    );
-    step(b"longitude 180", Pen::new().step(w, 1, 0, 0, EAST, 0));
+    )?;
+    step(rt, b"longitude 180", Pen::new().step(w, 1, 0, 0, EAST, 0))
 }
 
-pub fn all() {
-    strokes();
-    drops();
-    edges();
-    window_refusals();
-    refusals();
+pub fn all(rt: &impl Print) -> io::Result<()> {
+    strokes(rt)?;
+    drops(rt)?;
+    edges(rt)?;
+    window_refusals(rt)?;
+    refusals(rt)
 }
