@@ -43,7 +43,7 @@ def example(header):
 
 
 def library():
-    return list(elf.members(built.under_target('staticlib/libsenruhobi.a', 'rt staticlib senruhobi').read_bytes()))
+    return list(elf.members(built.library().read_bytes()))
 
 
 class Header(unittest.TestCase):
