@@ -3,6 +3,7 @@ import re
 from typing import NamedTuple
 
 FUNCTION = re.compile(r'^([ \t]*)pub (?:(?:const|unsafe|extern "C") )*fn (\w+)', re.M)
+ANY_FUNCTION = re.compile(r'^(?:[ \t]*(?:#\[.*\]|//.*)\n)*([ \t]*)(?:pub(?:\([^)]*\))? )?(?:(?:const|unsafe|extern "C") )*fn (\w+)', re.M)
 TYPE = re.compile(r'^impl (\w+)', re.M)
 MODULE = re.compile(r'^pub mod (\w+);', re.M)
 IMPORT = re.compile(r'^ghost use ([^;]*);$', re.M)
@@ -59,3 +60,14 @@ def of_module(crate, src, path):
 def callable_functions(root):
     for library in sorted(root.glob('crates/*/src/lib.rt')):
         yield from of_module(library.parts[-3], library.parent, ())
+
+
+def function_at(root, crate, file, line):
+    """The name of the function that a line of a crate's file stands in, below src/ and without its end. What stands right above one belongs to it."""
+    text = (root / 'crates' / crate / 'src' / f'{file}.rt').read_text(encoding='utf-8')
+    names = [()]
+    for found in ANY_FUNCTION.finditer(text):
+        if text.count('\n', 0, found.start()) < line:
+            types = TYPE.findall(text, 0, found.start())
+            names.append((*(types[-1:] if found.group(1) else []), found.group(2)))
+    return '::'.join((crate, *(file.split('/') if file not in ('lib', 'main') else ()), *names[-1]))
