@@ -59,6 +59,16 @@ def named(root, crate, message):
     return {'::'.join((crate, *path))} if last in ('Answers', 'Invariants', 'Proof') else set()
 
 
+def home(folder, theorem):
+    """The part of a crate, specs or proofs, in which a theorem crate/Module.name stands, or None."""
+    module, _, name = theorem.partition('/')[2].partition('.')
+    for part in ('specs', 'proofs'):
+        file = folder / part / f'{module}.antt'
+        if file.is_file() and re.search(rf'^\s*pub {re.escape(name)} :', file.read_text(encoding='utf-8'), re.M):
+            return part
+    return None
+
+
 def edited(text, folder):
     """The files of a crate that an edit changes, with their texts."""
     texts, path, old = {}, None, None
@@ -82,8 +92,7 @@ def add_questions(folder, crate, theorems):
     uses = ''
     for k, theorem in enumerate(theorems):
         module, _, name = theorem.partition('/')[2].partition('.')
-        part = next(part for part in ('specs', 'proofs') if (folder / part / f'{module}.antt').is_file())
-        files[f'proofs/Asked{k}.antt'] = (f'use Rattle.std.specs.Prelude.{{ℕ}}\nuse Rattle.{crate}.{part}.{module}.{{{name}}}\n\n'
+        files[f'proofs/Asked{k}.antt'] = (f'use Rattle.std.specs.Prelude.{{ℕ}}\nuse Rattle.{crate}.{home(folder, theorem)}.{module}.{{{name}}}\n\n'
                                           f'pub asked : ℕ\nasked = let told = {name} in 0\n')
         files['proofs/Lib.antt'] += f'mod Asked{k}\n'
         uses += f'use Rattle.{crate}.proofs.Asked{k} as asked{k}\n'

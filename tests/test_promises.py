@@ -20,7 +20,7 @@ from test_gate import script
 
 FUNCTION = re.compile(r'`(\w+(?:::\w+)+)`')
 # `crate/..` says how they are named, and the others are folders
-THEOREM = re.compile(r'`(?!(?:crate|docs|proofs|specs|tests)/)((\w+)/(\w+)\.([^`]+))`')
+THEOREM = re.compile(r'`(?!(?:crate|docs|proofs|specs|tests)/)((\w+)/\w+\.[^`]+)`')
 EDIT = re.compile(r'`(?!crate/)(\w+)/(\w+)`')
 
 # how many wrong programs a function has at the least: a pen is up or down, so that there is no second wrong answer, and what is printed is not
@@ -47,10 +47,7 @@ def unnamed(text, root):
     mentioned = set(EDIT.findall(text))
     yield from (f'{crate}/{label} is not mentioned' for crate, label in sorted(edits - mentioned))
     yield from (f'{crate}/{label} is no edit' for crate, label in sorted(mentioned - edits))
-    for theorem, crate, module, name in THEOREM.findall(text):
-        files = [root / 'crates' / crate / part / f'{module}.antt' for part in ('specs', 'proofs')]
-        if not any(file.is_file() and re.search(rf'^\s*pub {re.escape(name)} :', file.read_text(encoding='utf-8'), re.M) for file in files):
-            yield f'{theorem} is no theorem'
+    yield from (f'{theorem} is no theorem' for theorem, crate in THEOREM.findall(text) if not refused.home(root / 'crates' / crate, theorem))
     functions = {function.name for function in sources.callable_functions(root)}
     listed = {name for cells in rows(text, 'function', 'its result is', 'wrong programs') for name in FUNCTION.findall(cells[0])}
     yield from (f'{name} is not in the table' for name in sorted(functions - listed))
@@ -117,7 +114,7 @@ PAGE = '''
 '''
 TOLD = '''rt: low: 4 of its 4 must-fail edits were tried by an earlier run
 rt: must-fail low/another.edit: refused, as it must be: note: src/lib.rt:1:1: it is not proved that what the function ensures holds
-rt: must-fail low/is_not.edit: refused, as it must be: ./specs/Laws.antt:1:2: error: `is`: no
+rt: must-fail low/is_not.edit: refused, as it must be: ./proofs/Laws.antt:1:2: error: `is`: no
 rt: must-fail low/nothing_told.edit: refused, as it must be: ./proofs/Unique.antt:1:2: error: `next`: no
 rt: must-fail low/other.edit: refused, as it must be (only by a limit of the prover, so: choose another): ./proofs/next/Answers.antt:1:2: error: `returns`: no
 '''
@@ -125,8 +122,9 @@ FILES = {
     'crates.txt': 'low:\n',
     'crates/low/src/lib.rt': 'pub fn next(x: u32) -> u32 {\n    1\n}\n',
     'crates/low/specs/Says.antt': '1\n',
-    'crates/low/specs/Laws.antt': 'pub is : ℕ\n',
-    'crates/low/proofs/Lib.antt': 'pub mod Unique\n',
+    'crates/low/specs/Laws.antt': 'pub has : ℕ\n',
+    'crates/low/proofs/Laws.antt': 'module _ where\n  pub is : ℕ\n',
+    'crates/low/proofs/Lib.antt': 'pub mod Unique\npub mod Laws\n',
     'crates/low/must-fail/is_not.edit': 'file: specs/Says.antt\nold: 1\nnew: 2\n',
     'crates/low/must-fail/another.edit': 'file: src/lib.rt\nold: 1\nnew: 2\n',
     'crates/low/must-fail/other.edit': 'file: src/lib.rt\nold: 1\nnew: 3\n',
@@ -235,7 +233,12 @@ class Promises(unittest.TestCase):
                 last = FILES[said].splitlines()[-1] + '\n'
                 fault, = self.faults(told, (said, FILES[said], last))
                 self.assertRegex(fault, f'^{what} (is proved with|refuses no edit)')
-        self.assertEqual(self.faults(('told', './specs/Laws.antt:1:2: error: `is`: no', './specs/Laws.antt:1:2: error: 2 declarations that depend on `one`')), [])
+        self.assertEqual(self.faults(('told', '`is`: no', '2 declarations that depend on `one`, which was rejected, were not checked: other, is')), [])
+        self.assertEqual(len(self.calls.splitlines()), 1)
+        # theorems may stand in specs too
+        for other in ('has', 'is'):
+            moved = ('crates/low/specs/Laws.antt', 'has', other), ('crates/low/proofs/Laws.antt', 'is', 'has'), ('told', './proofs/Laws', './specs/Laws')
+            self.assertEqual(self.faults(*moved), ['low/Laws.is is no theorem'] * (other == 'has'))
         # what depends on another that is rejected
         self.assertEqual(self.faults(BY_A_LEMMA, ('says/12', 'on `is`', 'on `isnt`')), ['low/Laws.is refuses no edit'])
         self.assertEqual(self.faults(BY_A_LEMMA, ('says/12', 'Asked0', 'Asked1')), ['low/Laws.is refuses no edit'])
@@ -244,7 +247,7 @@ class Promises(unittest.TestCase):
     def test_how_it_is_asked(self):
         self.faults(BY_A_LEMMA)
         self.assertEqual(self.calls, 'check --jobs 1 --only low::asked::all\n')
-        for line in ('pub fn all() -> u32', 'use Rattle.low.specs.Laws.{is}', 'asked = let told = is in 0', 'mod Asked0', 'pub mod Unique',
+        for line in ('pub fn all() -> u32', 'use Rattle.low.proofs.Laws.{is}', 'asked = let told = is in 0', 'mod Asked0', 'pub mod Unique',
                      'use Rattle.low.proofs.Asked0 as asked0'):
             self.assertIn(f'{line}\n', self.given)
         self.faults(BY_A_CALLEE)
