@@ -10,15 +10,16 @@ import sys
 import tempfile
 import time
 
-# Each part, and how many things it has to count: one that is gone is missed, and one that is new is counted in here.
+# Each part, the folder that it is run in, and how many things it has to count: one that is gone is missed, and one that is new is counted in here.
 # A part without a number is one thing.
 PARTS = (
-    ('rt ci', 242),  # crates and edits
-    ('rt fmt --check', None),
-    ('rt staticlib senruhobi', None),
-    ('tests/run', 191),
+    ('rt ci', '.', 248),  # 17 crates and 231 edits
+    ('rt lib', 'crates/senruhobi', None),
+    ('tests/run', '.', 197),
 )
 COUNT = re.compile(rb'(?:^|\n)(\d+) passed, (\d+) failed(?:, (\d+) not run)?\n?\Z')
+# what rt ci says of edits that it could not try, of which it counts none
+BAD = re.compile(rb'^rt: ok\b.*, (\d+) bad\b', re.M)
 # The parts get this much of the environment, by which tools are found. No seed, language or library path of the caller's gets to them.
 KEPT = ('PATH', 'HOME', 'RATTLE_HOME', 'RUSTUP_HOME', 'CARGO_HOME', 'PYENV_ROOT')
 # seconds: from one look to the next, and from asking a part to end to making it
@@ -70,12 +71,12 @@ def end(part):
     part.stdout.close()
 
 
-def run(command, environment):
+def run(command, folder, environment):
     """Runs a part and passes on what it prints. Gives what is wrong with its end, if anything, and the last that it printed."""
-    say(f'== {command}')
+    say(f'== {command}' + (f' in {folder}' if folder != '.' else ''))
     try:
-        part = subprocess.Popen(command.split(), env=environment, start_new_session=True, stdin=subprocess.DEVNULL, stdout=subprocess.PIPE,
-                                stderr=subprocess.STDOUT)
+        part = subprocess.Popen(command.split(), cwd=folder, env=environment, start_new_session=True, stdin=subprocess.DEVNULL,
+                                stdout=subprocess.PIPE, stderr=subprocess.STDOUT)
     except OSError as why:
         return f'cannot be started: {why}', b''
     last, pipes, ended = b'', [part.stdout], False
@@ -88,7 +89,7 @@ def run(command, environment):
             ready = select.select(pipes, [], [], MOMENT)[0]
             data = os.read(part.stdout.fileno(), 1 << 20) if ready else b''
             show(data)
-            last = (last + data)[-200:]
+            last = (last + data)[-10_000:]
             if ready and not data:
                 pipes = []  # the part has closed it, and may go on
     finally:
@@ -115,6 +116,10 @@ def judged(command, number, wrong, last):
             fault('did not end in its count')
         return 0, 1, 0
     passed, failed, not_run = (int(said or 0) for said in count.groups())
+    bad = BAD.search(last)
+    if bad:
+        fault(f'could not try {int(bad[1])} must-fail edits')
+        failed += int(bad[1])
     counted = passed + failed + not_run
     if wrong:
         failed = max(failed, 1)
@@ -139,8 +144,8 @@ def main():
             environment = {name: os.environ[name] for name in KEPT if name in os.environ}
             environment.update(LC_ALL='C.UTF-8', TMPDIR=os.path.abspath(room))
             take_turn(file)
-            for command, number in PARTS:
-                results.append(judged(command, number, *run(command, environment)))
+            for command, folder, number in PARTS:
+                results.append(judged(command, number, *run(command, folder, environment)))
     except OSError as why:
         say(f'gate: {why}')
         results.append((0, 1, 0))

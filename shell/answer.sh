@@ -44,21 +44,24 @@ case ${1--} in
 esac
 command -v rt >/dev/null || fail 'rt is not on the PATH (it comes with the Rattle kit)'
 cd "$desk" || exit 2
-built=target/bin/$program
+built=crates/$program/out/$program
 
-# Whether the program is there, and no source is newer.
-current() { [ -f "$built" ] && [ -z "$(find crates crates.txt -newer "$built")" ]; }
+# Whether the program is there, and nothing that is proved is newer.
+current() { [ -f "$built" ] && [ -z "$(find crates.txt crates/*/src crates/*/specs crates/*/proofs -newer "$built" 2>/dev/null)" ]; }
 
-# Whether rt can write target/ and what an earlier check has left below it.
+# Whether rt can write to each crate's out/ and to what an earlier call has left in it.
 writable() {
-    [ -e target ] || [ -w . ] || return
-    for path in target target/* target/*/*; do
-        [ ! -e "$path" ] || [ -w "$path" ] || return
+    for crate in crates/*; do
+        [ -e "$crate/out" ] || [ -w "$crate" ] || return
+        for path in "$crate"/out "$crate"/out/* "$crate"/out/*/*; do
+            [ ! -e "$path" ] || [ -w "$path" ] || return
+        done
     done
 }
 
-# Proves and builds what has changed since it was last proved. Whoever works below target/ locks crates.txt, where there is a command
-# for that: a check could take another's notes for a failure, and the gate removes them. What is built and up to date need not wait.
+# Proves and builds what has changed since it was last proved, by a run on no text, whose answer is not wanted. Whoever works below out/ locks
+# crates.txt, where there is a command for that: the gate puts aside what stands there. What is built and up to date need not wait. What rt ci
+# has built has no stamp by which rt run could tell that nothing has changed; it is proved, and not proved again.
 update() {
     if command -v flock >/dev/null && ! flock -n 9; then
         ! current || return 0
@@ -70,23 +73,27 @@ update() {
         current || say "$program is older than its sources, and this checkout cannot be written: running it as it is"
         return 0
     fi
-    current || say "proving and building $program; the first time this takes some minutes"
-    said=$(rt check "$program" </dev/null 2>&1) || {
+    if current; then
+        [ -e "$built.stamp" ] || return 0
+    else
+        say "proving and building $program; the first time this takes some minutes"
+    fi
+    said=$(cd "crates/$program" && rt run </dev/null 2>&1) || {
         printf '%s\n' "$said" >&2
         fail "$program is not proved"
     }
-    [ -f "$built" ] || fail "rt check left no $built; remove the folder target and try again"
+    [ -f "$built" ] || fail "rt run left no $built; remove the folder crates/$program/out and try again"
     touch "$built" # what is older than this has been proved: there is nothing to say next time
 }
 update 9<crates.txt || exit 2
 
-# programs are for x86-64; on another kind of machine the kit has an emulator
-tools=$(dirname "$(dirname "$(rt doc)")")/on/$(uname -m)/toolchain
+# programs are for x86-64; a kit for another kind of machine would bring an emulator
+tools=$(dirname "$(rt doc)")/toolchain
 emulator=$tools/bin/qemu-x86_64
 [ -x "$emulator" ] || emulator=
 run() { ${emulator:+"$emulator"} "$tools/lib/ld-linux-x86-64.so.2" --library-path "$tools/lib" "$built"; }
 
-# A program has no status of its own: where it cannot read or print, it says so on standard error, in a line that begins with its name. What it
+# The programs end with status 0 also where they cannot read or print, and say so on standard error, in a line that begins with their name. What one
 # has printed is then no answer, and nothing at all may be one. The last byte keeps the line ends before it, which the shell would drop.
 answer=$(
     exec 3>&1

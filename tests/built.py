@@ -1,5 +1,5 @@
-"""Runs a program that was built, as rt itself does: under the kit's loader and C library, and under the kit's emulator where it
-has one. Programs are for x86-64; the kit for Arm has the emulator, so the same words serve on both kinds of machine."""
+"""Runs a program that was built under the kit's loader and C library, and under the kit's emulator where it has one. Programs are for x86-64;
+a kit for another kind of machine would bring an emulator, so the same words serve on both."""
 import functools
 import os
 import pathlib
@@ -20,23 +20,28 @@ def needs(tool):
 
 @functools.lru_cache(maxsize=None)
 def tools():
-    """The kit's folder for this machine: compiler and linker in bin; loader, C library and what a program starts with in lib."""
+    """The kit's folder of tools: compiler and linker in bin; loader, C library and what a program starts with in lib."""
     guide = subprocess.run(['rt', 'doc'], check=True, capture_output=True, text=True).stdout.strip()
-    # the guide is docs/START-HERE.md of the kit
-    return pathlib.Path(guide).parent.parent / 'on' / os.uname().machine / 'toolchain'
+    # the guide is START-HERE.md at the top of the kit
+    return pathlib.Path(guide).parent / 'toolchain'
 
 
-def under_target(name, maker):
-    """A file that the kit has made under target/."""
-    path = ROOT / 'target' / name
+def made(crate, name, maker):
+    """A file that the kit has made of a crate."""
+    path = ROOT / 'crates' / crate / 'out' / name
     if not path.is_file():
-        raise FileNotFoundError(f'target/{name} is not there: {maker} builds it')
+        raise FileNotFoundError(f'crates/{crate}/out/{name} is not there: {maker} makes it')
     return path
 
 
+def library():
+    """The library for C."""
+    return made('senruhobi', 'libsenruhobi.a', 'rt lib in crates/senruhobi')
+
+
 def command(program):
-    """The words that start a program: one that rt check has built, by its name, or any, by its path."""
-    path = program if isinstance(program, pathlib.Path) else under_target(f'bin/{program}', 'rt check')
+    """The words that start a program: one that rt ci has built, by its name, or any, by its path."""
+    path = program if isinstance(program, pathlib.Path) else made(program, program, 'rt ci')
     emulator = tools() / 'bin/qemu-x86_64'
     return [*([emulator] if emulator.exists() else []), tools() / 'lib/ld-linux-x86-64.so.2', '--library-path', tools() / 'lib', path]
 

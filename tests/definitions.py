@@ -11,8 +11,8 @@ import sys
 import built
 import sources
 
-NAMES = re.compile(r'Rattle·(\w+)(?:·specs)?\.specs\.([\w.-]+)\.\{([^}]*)\}')
-ALIAS = re.compile(r'Rattle·(\w+)(?:·specs)?\.specs\.([\w.-]+) as (\w+)')
+NAMES = re.compile(r'Rattle\.(\w+)\.specs\.([\w.-]+)\.\{([^}]*)\}')
+ALIAS = re.compile(r'Rattle\.(\w+)\.specs\.([\w.-]+) as (\w+)')
 HEAD = re.compile(r'\s*(?:abbrev |unfoldable )?(?:pub )?(?:(?:record|data) (\S+)|(\S+) : )')
 WORD = re.compile(r'[^\s(){},;λ.=→]+(?:\.[^\s(){},;λ.=→]+)?')
 
@@ -30,7 +30,7 @@ class Scope:
 
     def find(self, text):
         """The definitions that a text names."""
-        for word in WORD.findall(text) + ['if_then_else_'] * bool(re.search(r'\bif\b', text)):
+        for word in WORD.findall(text):
             first, _, rest = word.partition('.')
             if first in self.aliases:
                 yield *self.aliases[first], rest

@@ -24,8 +24,7 @@ def compiled(source, room):
 def linked(room, *more, source=TESTS / 'doors.c'):
     """A program over the library, the driver if no other, in a folder; more are other words for the linker."""
     made, lib = room / source.stem, built.tools() / 'lib'
-    archive = built.under_target('staticlib/libsenruhobi.a', 'rt staticlib senruhobi')
-    subprocess.run([built.tools() / 'bin/ld.lld', '-pie', '-o', made, lib / 'Scrt1.o', compiled(source, room), *more, archive,
+    subprocess.run([built.tools() / 'bin/ld.lld', '-pie', '-o', made, lib / 'Scrt1.o', compiled(source, room), *more, built.library(),
                     lib / 'libc.so.6'], check=True)
     return made
 

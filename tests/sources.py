@@ -3,14 +3,16 @@ import re
 from typing import NamedTuple
 
 FUNCTION = re.compile(r'^([ \t]*)pub (?:(?:const|unsafe|extern "C") )*fn (\w+)', re.M)
+ANY_FUNCTION = re.compile(r'^(?:[ \t]*(?:#\[.*\]|//.*)\n)*([ \t]*)(?:pub(?:\([^)]*\))? )?(?:(?:const|unsafe|extern "C") )*fn (\w+)', re.M)
 TYPE = re.compile(r'^impl (\w+)', re.M)
 MODULE = re.compile(r'^pub mod (\w+);', re.M)
-IMPORT = re.compile(r'^ghost use (.*);$', re.M)
+IMPORT = re.compile(r'^ghost use ([^;]*);$', re.M)
 
-
-# What is read or printed no contract can say. So the contract of a function that reads says the rest, and that of one that prints, which answers
-# whether it could, says nothing. There are no others whose contract does not fix the result.
-READ, PRINT = {'streams::read_route'}, {'streams::text', 'streams::number', 'streams::field', 'streams::refused'}
+# What a stream gives or takes no contract can say. So the contract of a function that reads says the rest, and that of one that prints says what
+# it added where a writer's bytes are known, and of an error nothing. There are no others whose contract does not fix the result.
+READ, PRINT = {'streams::read_route'}, {'streams::text', 'streams::number', 'streams::field', 'streams::refused', 'streams::fail'}
+# by which a function can read or print: a reader, a writer, or a handle of the host
+STREAM = re.compile(r'\w: (?:Read|Write)\b|\bimpl (?:Read|Write|Print|Eprint)\b|\bHostRuntime\b')
 
 
 class Function(NamedTuple):
@@ -23,13 +25,18 @@ class Function(NamedTuple):
     def name(self):
         return '::'.join((self.crate, *self.path))
 
+    @property
+    def has_stream(self):
+        """Whether its parameters let it read or print."""
+        return bool(STREAM.search(re.split(r'\b(?:requires|ensures)\b', self.clauses)[0]))
+
 
 def clauses(text, start):
     """A brace behind `ensures` or `requires` opens a clause, any other the body."""
     depth = 0
     for at in range(start, len(text)):
         if text[at] == '{':
-            if depth == 0 and not re.search(r'\b(requires|ensures)(\s+\w+)?\s*$', text[start:at]):
+            if depth == 0 and not re.search(r'\b(requires|ensures)\*?(\s+\w+)?\s*$', text[start:at]):
                 return text[start:at]
             depth += 1
         elif text[at] == '}':
@@ -50,12 +57,17 @@ def of_module(crate, src, path):
         yield from of_module(crate, src, (*path, name))
 
 
-def dependencies(root):
-    """The crates that each crate stands on, by the root's crates.txt."""
-    lines = re.sub(r'#[^\n]*', '', (root / 'crates.txt').read_text(encoding='utf-8')).split('\n')
-    return {name: set(below.split()) for name, _, below in (line.partition(':') for line in lines)}
-
-
 def callable_functions(root):
     for library in sorted(root.glob('crates/*/src/lib.rt')):
         yield from of_module(library.parts[-3], library.parent, ())
+
+
+def function_at(root, crate, file, line):
+    """The name of the function that a line of a crate's file stands in, below src/ and without its end. What stands right above one belongs to it."""
+    text = (root / 'crates' / crate / 'src' / f'{file}.rt').read_text(encoding='utf-8')
+    names = [()]
+    for found in ANY_FUNCTION.finditer(text):
+        if text.count('\n', 0, found.start()) < line:
+            types = TYPE.findall(text, 0, found.start())
+            names.append((*(types[-1:] if found.group(1) else []), found.group(2)))
+    return '::'.join((crate, *(file.split('/') if file not in ('lib', 'main') else ()), *names[-1]))

@@ -13,9 +13,10 @@ import built
 import doors
 import model
 
-PAGES = ['README.md', 'bench/README.md', *sorted(f'docs/{path.name}' for path in built.ROOT.glob('docs/*.md'))]
+# docs/PORT.md tells of files that are gone
+PAGES = ['README.md', 'bench/README.md', *sorted(f'docs/{path.name}' for path in built.ROOT.glob('docs/*.md') if path.name != 'PORT.md')]
 # a file or folder of the project, as the pages name it; a capital word stands for any name
-NAMED = re.compile(r'`((?:\.ci|bench|crates|docs|examples|include|shell|tests)/[\w./-]*)`|\]\(([\w./-]+)\)')
+NAMED = re.compile(r'`((?:\.ci|bench|crates|docs|examples|include|shell|tests|tools)/[\w./-]*)`|\]\(([\w./-]+)\)')
 # the program that each script runs, and what it prints by the model
 SCRIPTS = {'report': ('routereport', model.report), 'courses': ('courselist', model.course_list)}
 

@@ -41,7 +41,7 @@ def built_by_the_readme(word):
     """What the README's command line with a word in it prints, and the folder that it is run in, over links to what it names of the project."""
     command, = re.findall(rf'^    (.*\b{word}\b.*)$', README.read_text(encoding='utf-8'), re.M)
     with tempfile.TemporaryDirectory() as room:
-        for name in ('examples', 'include', 'target'):
+        for name in ('examples', 'include', 'crates'):
             pathlib.Path(room, name).symlink_to(built.ROOT / name)
         ran = subprocess.run(['/bin/sh', '-c', command], cwd=room, capture_output=True, text=True)
         if ran.returncode or ran.stderr:

@@ -35,7 +35,7 @@ class Frames(unittest.TestCase):
         programs = [line.split(':')[0] for line in (built.ROOT / 'crates.txt').read_text(encoding='utf-8').split('\n')
                     if (built.ROOT / 'crates' / line.split(':')[0] / 'src/main.rt').is_file()]
         self.assertNotEqual(programs, [])
-        for path in [*(built.under_target(f'bin/{program}', 'rt check') for program in programs), doors.driver()]:
+        for path in [*(built.made(program, program, 'rt ci') for program in programs), doors.driver()]:
             large = 0
             for name, code in functions(path.read_bytes()):
                 large += PROBE in code

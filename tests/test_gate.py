@@ -15,8 +15,10 @@ import unittest
 import built
 
 # stand-ins that pass, and the last line over them
-GOOD = {'ci': 'echo "5 passed, 0 failed"', 'fmt': ':', 'staticlib': ':', 'tests': 'echo "3 passed, 0 failed"'}
-ALL = '10 passed, 0 failed'
+GOOD = {'ci': 'echo "5 passed, 0 failed"', 'lib': ':', 'tests': 'echo "3 passed, 0 failed"'}
+ALL = '9 passed, 0 failed'
+# what rt ci says of its edits before its count
+OK = 'rt: ok; handles allowed: none; must-fail edits: {}; every proof and must-fail edit was done in this run'
 WAITING = 'gate: another run works in this checkout; waiting for it'
 # what a part may see of its caller's environment, and what the gate sets
 SEEN = {'PATH', 'HOME', 'RATTLE_HOME', 'RUSTUP_HOME', 'CARGO_HOME', 'PYENV_ROOT', 'LC_ALL', 'TMPDIR'}
@@ -52,10 +54,11 @@ class Gate(unittest.TestCase):
         self.room = pathlib.Path(room.name)
         (self.room / '.ci').mkdir()
         (self.room / 'crates.txt').touch()
+        (self.room / 'crates/senruhobi').mkdir(parents=True)
         for name in ('run', 'gate.py'):
             shutil.copy(built.ROOT / '.ci' / name, self.room / '.ci' / name)
-        self.change("'rt ci', ", 5)
-        self.change("'tests/run', ", 3)
+        self.change("'rt ci', '.', ", 5)
+        self.change("'tests/run', '.', ", 3)
         self.parts()
 
     def change(self, before, number):
@@ -66,9 +69,10 @@ class Gate(unittest.TestCase):
         path.write_text(text, encoding='utf-8')
 
     def parts(self, **given):
-        """Puts an rt and a tests/run into the room that pass, but for the parts that are given."""
-        do = {**GOOD, **given}
-        script(self.room / 'bin/rt', f'case $1 in ci) {do["ci"]};; fmt) {do["fmt"]};; staticlib) {do["staticlib"]};; *) exit 2;; esac')
+        """Puts an rt and a tests/run into the room that pass, but for the parts that are given. Each of rt's looks where it is run."""
+        do, here = {**GOOD, **given}, '[ "$PWD" -ef "{}" ] || exit 2; cd "{}"'
+        ci, lib = (here.format(folder, self.room) for folder in (self.room, self.room / 'crates/senruhobi'))
+        script(self.room / 'bin/rt', f'case $* in ci) {ci}; {do["ci"]};; lib) {lib}; {do["lib"]};; *) exit 2;; esac')
         script(self.room / 'tests/run', do['tests'])
 
     def start(self, *by, stdout=None, ignored=(), cwd=None, **environment):
@@ -104,44 +108,54 @@ class Gate(unittest.TestCase):
 
     def test_all_parts_run_and_are_counted(self):
         lines = self.ends(self.start(), 0, ALL)
-        self.assertEqual(lines, ['== rt ci', '5 passed, 0 failed', '== rt fmt --check', '== rt staticlib senruhobi', '== tests/run',
-                                 '3 passed, 0 failed', ALL])
+        self.assertEqual(lines, ['== rt ci', '5 passed, 0 failed', '== rt lib in crates/senruhobi', '== tests/run', '3 passed, 0 failed', ALL])
 
     def test_all_that_a_part_prints_is_passed_on(self):
-        self.parts(ci='awk "BEGIN { for (i = 0; i < 200000; i++) print i }"; printf "5 passed, 0 failed" >&2', fmt='cat')
+        self.parts(ci='awk "BEGIN { for (i = 0; i < 200000; i++) print i }"; printf "5 passed, 0 failed" >&2', lib='cat')
         lines = self.ends(self.start(), 0, ALL)
-        self.assertEqual(lines[:200_004], ['== rt ci', *map(str, range(200_000)), '5 passed, 0 failed', '== rt fmt --check',
-                                           '== rt staticlib senruhobi'])
+        self.assertEqual(lines[:200_004], ['== rt ci', *map(str, range(200_000)), '5 passed, 0 failed', '== rt lib in crates/senruhobi', '== tests/run'])
 
     def test_a_part_that_fails(self):
-        self.refuses('9 passed, 1 failed', ci='echo "4 passed, 1 failed"; exit 1')
-        self.refuses('9 passed, 1 failed', fmt='exit 1')
-        self.refuses('9 passed, 1 failed', staticlib='exit 1')
-        self.refuses('8 passed, 2 failed', tests='echo "1 passed, 2 failed"; exit 1')
-        self.refuses('8 passed, 2 failed', tests='echo "1 passed, 2 failed"')
+        self.refuses('8 passed, 1 failed', ci='echo "4 passed, 1 failed"; exit 1')
+        self.refuses('8 passed, 1 failed', lib='exit 1')
+        self.refuses('7 passed, 2 failed', tests='echo "1 passed, 2 failed"; exit 1')
+        self.refuses('7 passed, 2 failed', tests='echo "1 passed, 2 failed"')
+
+    def test_edits_that_could_not_be_tried(self):
+        # rt ci counts none of them, and ends with status 0
+        self.parts(ci=f'echo "{OK.format("4 refused")}"; {GOOD["ci"]}')
+        self.ends(self.start(), 0, ALL)
+        bad = 'gate: rt ci could not try {} must-fail edits'
+        self.refuses('8 passed, 1 failed', bad.format(1), ci=f'echo "{OK.format("3 refused, 1 bad")}"; echo "4 passed, 0 failed"')
+        self.refuses('7 passed, 2 failed', bad.format(2), ci=f'echo "{OK.format("2 refused, 1 of them only by a limit, 2 bad")}"; echo "3 passed, 0 failed"')
+        self.refuses('9 passed, 2 failed', bad.format(1), ci=f'echo "{OK.format("4 refused, 1 bad")}"; {GOOD["ci"]}')
 
     def test_a_part_that_breaks_off(self):
-        self.refuses('5 passed, 1 failed', 'gate: rt ci ended with status 2', ci='echo "rt: no crates.txt"; exit 2')
-        self.refuses('10 passed, 1 failed', 'gate: rt ci ended with status 3', ci='echo "5 passed, 0 failed"; exit 3')
-        self.refuses('5 passed, 1 failed', 'gate: rt ci ended with status 3', ci='exec >&- 2>&-; sleep 0.2; exit 3')
+        self.refuses('4 passed, 1 failed', 'gate: rt ci ended with status 2', ci='echo "rt: no crates.txt"; exit 2')
+        self.refuses('9 passed, 1 failed', 'gate: rt ci ended with status 3', ci='echo "5 passed, 0 failed"; exit 3')
+        self.refuses('4 passed, 1 failed', 'gate: rt ci ended with status 3', ci='exec >&- 2>&-; sleep 0.2; exit 3')
         for tests in ('exit 0', 'echo "3 passed, 0 failed"; echo', 'echo "all 3 passed, 0 failed"', 'echo "3 passed, 0 failed, 0 skipped"'):
-            self.refuses('7 passed, 1 failed', 'gate: tests/run did not end in its count', tests=tests)
+            self.refuses('6 passed, 1 failed', 'gate: tests/run did not end in its count', tests=tests)
 
     def test_a_part_that_is_killed(self):
-        self.refuses('10 passed, 1 failed', 'gate: rt ci was ended by signal 9', ci='echo "5 passed, 0 failed"; kill -9 $$')
-        self.refuses('9 passed, 1 failed', 'gate: rt fmt --check was ended by signal 9', fmt='kill -9 $$')
-        self.refuses('7 passed, 1 failed', 'gate: tests/run was ended by signal 15', tests='kill $$')
+        self.refuses('9 passed, 1 failed', 'gate: rt ci was ended by signal 9', ci='echo "5 passed, 0 failed"; kill -9 $$')
+        self.refuses('8 passed, 1 failed', 'gate: rt lib was ended by signal 9', lib='kill -9 $$')
+        self.refuses('6 passed, 1 failed', 'gate: tests/run was ended by signal 15', tests='kill $$')
         # a caller that ignores how its children end hands that on to the gate
-        self.parts(fmt='kill -9 $$')
-        self.ends(self.start(ignored=[signal.SIGCHLD]), 1, '9 passed, 1 failed')
+        self.parts(lib='kill -9 $$')
+        self.ends(self.start(ignored=[signal.SIGCHLD]), 1, '8 passed, 1 failed')
 
     def test_a_part_that_cannot_be_started(self):
         (self.room / 'tests/run').unlink()
-        lines = self.ends(self.start(), 1, '7 passed, 1 failed')
+        lines = self.ends(self.start(), 1, '6 passed, 1 failed')
         self.assertIn('gate: tests/run cannot be started', lines[-2])
+        self.parts()
+        (self.room / 'crates/senruhobi').rmdir()
+        lines = self.ends(self.start(), 1, '8 passed, 1 failed')
+        self.assertIn('gate: rt lib cannot be started', lines[3])
 
     def test_something_that_a_part_leaves_behind(self):
-        self.parts(fmt='sleep 600 & echo $! >left')
+        self.parts(lib='sleep 600 & echo $! >left')
         self.ends(self.start(), 0, ALL)
         left = (self.room / 'left').read_text(encoding='utf-8')
         until(lambda: not alive(int(left)))
@@ -149,7 +163,7 @@ class Gate(unittest.TestCase):
     def test_something_that_is_left_behind_and_cannot_be_found(self):
         # in a session of its own, with the part's output
         away = 'import os, time; os.setsid(); print(os.getpid(), file=open("new", "w")); os.rename("new", "left"); time.sleep(600)'
-        self.parts(fmt=f"'{sys.executable}' -c '{away}' & until [ -e left ]; do sleep 0.05; done")
+        self.parts(lib=f"'{sys.executable}' -c '{away}' & until [ -e left ]; do sleep 0.05; done")
         started = self.start()
         until((self.room / 'left').exists)
         self.addCleanup(os.kill, int((self.room / 'left').read_text(encoding='utf-8')), signal.SIGKILL)
@@ -157,15 +171,15 @@ class Gate(unittest.TestCase):
 
     def test_what_is_gone_is_missed_and_what_is_new_is_counted_in(self):
         line = 'gate: {} counted {}, and has to count {} (PARTS in .ci/gate.py)'
-        self.refuses('9 passed, 1 failed', line.format('rt ci', 4, 5), ci='echo "4 passed, 0 failed"')
-        self.refuses('11 passed, 1 failed', line.format('rt ci', 6, 5), ci='echo "6 passed, 0 failed"')
-        self.refuses('8 passed, 2 failed', line.format('tests/run', 2, 3), tests='echo "1 passed, 1 failed"; exit 1')
-        self.refuses('10 passed, 1 failed', line.format('tests/run', 4, 3), tests='echo "3 passed, 0 failed, 1 not run"')
-        self.refuses('7 passed, 1 failed', line.format('tests/run', 0, 3), tests='echo "0 passed, 0 failed"')
+        self.refuses('8 passed, 1 failed', line.format('rt ci', 4, 5), ci='echo "4 passed, 0 failed"')
+        self.refuses('10 passed, 1 failed', line.format('rt ci', 6, 5), ci='echo "6 passed, 0 failed"')
+        self.refuses('7 passed, 2 failed', line.format('tests/run', 2, 3), tests='echo "1 passed, 1 failed"; exit 1')
+        self.refuses('9 passed, 1 failed', line.format('tests/run', 4, 3), tests='echo "3 passed, 0 failed, 1 not run"')
+        self.refuses('6 passed, 1 failed', line.format('tests/run', 0, 3), tests='echo "0 passed, 0 failed"')
 
     def test_what_is_not_run_is_said(self):
         self.parts(tests='echo "1 passed, 0 failed, 2 not run"')
-        self.ends(self.start(), 0, 'gate: 2 not run here', '8 passed, 0 failed')
+        self.ends(self.start(), 0, 'gate: 2 not run here', '7 passed, 0 failed')
 
     def test_a_signal_stops_what_was_started_and_removes_its_files(self):
         tmp = self.room / 'tmp'
@@ -176,7 +190,7 @@ class Gate(unittest.TestCase):
             for part, grace in ((waits, 600), ('trap "" TERM; ' + waits, 0.2)):
                 with self.subTest(number=number, part=part):
                     self.change('MOMENT, GRACE = 0.05, ', grace)
-                    self.parts(fmt=part)
+                    self.parts(lib=part)
                     started = self.start(TMPDIR=str(tmp))
                     until(lambda: (self.room / 'pids').exists() and started[1].read_text(encoding='utf-8').endswith('begun'))
                     pids = (self.room / 'pids').read_text(encoding='utf-8').split()
@@ -188,7 +202,7 @@ class Gate(unittest.TestCase):
                     self.assertEqual(list(tmp.iterdir()), [])
 
     def test_nohup(self):
-        self.parts(fmt='touch runs; until [ -e go ]; do sleep 0.05; done')
+        self.parts(lib='touch runs; until [ -e go ]; do sleep 0.05; done')
         started = self.start(ignored=[signal.SIGHUP])
         until((self.room / 'runs').exists)
         started[0].send_signal(signal.SIGHUP)
@@ -215,7 +229,7 @@ class Gate(unittest.TestCase):
 
     def test_no_folder_for_temporary_files(self):
         # others may enter the folder that the parts get, since rt runs programs as nobody where it is root's
-        self.parts(fmt='mktemp >/dev/null && ls -ld "$TMPDIR"')
+        self.parts(lib='mktemp >/dev/null && ls -ld "$TMPDIR"')
         (self.room / 'file').touch()
         self.assertRegex(self.ends(self.start(TMPDIR=''), 0, ALL)[3], '^drwx--x--x')
         for no_folder in (self.room / 'nowhere', self.room / 'file', '/proc'):
@@ -233,7 +247,7 @@ class Gate(unittest.TestCase):
             self.assertNotEqual(gate.wait(60), 0)
 
     def test_the_environment_neither_breaks_nor_mends_anything(self):
-        for part in ('ci', 'fmt', 'staticlib', 'tests'):
+        for part in ('ci', 'lib', 'tests'):
             with self.subTest(part):
                 self.parts(**{part: f'tr "\\0" "\\n" </proc/$$/environ >seen; mktemp >/dev/null || exit 1; {GOOD[part]}'})
                 self.ends(self.start(SEED='x', TEXTS='0', QEMU_STRACE='1', LC_ALL='nonsense', LC_CTYPE='C', LANG='nonsense', PYTHONPATH='nowhere',

@@ -43,7 +43,7 @@ def example(header):
 
 
 def library():
-    return list(elf.members(built.under_target('staticlib/libsenruhobi.a', 'rt staticlib senruhobi').read_bytes()))
+    return list(elf.members(built.library().read_bytes()))
 
 
 class Header(unittest.TestCase):
@@ -107,7 +107,8 @@ class Header(unittest.TestCase):
 
     def test_the_stack_that_a_call_takes(self):
         with tempfile.TemporaryDirectory() as room:
-            said = built.run(doors.linked(pathlib.Path(room), source=doors.TESTS / 'stack.c')).decode()
+            # what the loader takes to bind a symbol at its first call differs from machine to machine, so all are bound before
+            said = built.run(doors.linked(pathlib.Path(room), '-z', 'now', source=doors.TESTS / 'stack.c')).decode()
         taken = {door: int(size) for door, size in map(str.split, said.splitlines())}
         self.assertEqual(taken.keys(), model.DOORS.keys())
         reading = taken.pop('read_route')

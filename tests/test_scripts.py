@@ -62,20 +62,22 @@ class Script:
         self.room = pathlib.Path(room.name)
         self.room.chmod(0o755)
         self.desk = self.room / 'the desk'
-        (self.desk / 'crates').mkdir(parents=True)
+        self.program = self.desk / 'crates' / self.PROGRAM / 'out' / self.PROGRAM
+        self.source = self.program.parent.parent / 'src/main.rt'
+        self.source.parent.mkdir(parents=True)
+        self.source.touch()
         (self.desk / 'crates.txt').touch()
         shutil.copy(built.ROOT / self.NAME, self.desk)
         shutil.copytree(built.ROOT / 'shell', self.desk / 'shell')
-        self.tools = self.room / 'kit/on' / os.uname().machine / 'toolchain'
+        self.tools = self.room / 'kit/toolchain'
         script(self.tools / 'lib/ld-linux-x86-64.so.2', LOADER)
         self.called = self.room / 'calls'
         self.called.touch()
         self.called.chmod(0o666)
-        # the stand-in for rt check talks, eats what it is given, and builds the stand-in for the program
-        self.check = f"""[ "$*" = 'check {self.PROGRAM}' ] || exit 9; cat; echo proved
-mkdir -p target/bin; [ -f target/bin/{self.PROGRAM} ] || echo '{PROGRAM}' >target/bin/{self.PROGRAM}"""
+        # the stand-in for rt run talks, eats what it is given, and builds the stand-in for the program
+        self.check = f"""[ "$*" = run ] && [ "$PWD" -ef "{self.source.parent.parent}" ] || exit 9; cat; echo proved
+mkdir -p out; [ -f out/{self.PROGRAM} ] || echo '{PROGRAM}' >out/{self.PROGRAM}; touch out/{self.PROGRAM}.stamp"""
         self.kit(self.check)
-        self.program = self.desk / 'target/bin' / self.PROGRAM
         self.answer = self.ANSWERS[0]
         self.route = self.room / 'a route'
         self.route.write_text(self.answer, encoding='utf-8')
@@ -87,7 +89,7 @@ mkdir -p target/bin; [ -f target/bin/{self.PROGRAM} ] || echo '{PROGRAM}' >targe
         """What the script says, as it stands on standard error."""
         return f'{self.NAME}: {said}\n'
 
-    def kit(self, check, guide='kit/docs/START-HERE.md'):
+    def kit(self, check, guide='kit/START-HERE.md'):
         """Puts an rt on the PATH that checks in the way said."""
         doc = f'echo "{self.room / guide}"'
         script(self.room / 'bin/rt', f'echo "$*" >>"{self.called}"; if [ "$1" = doc ]; then {doc}; else {check}; fi')
@@ -99,7 +101,7 @@ mkdir -p target/bin; [ -f target/bin/{self.PROGRAM} ] || echo '{PROGRAM}' >targe
         """A PATH with what a script calls, but for one tool."""
         path = self.room / 'without'
         path.mkdir()
-        for name in {'cat', 'dirname', 'find', 'flock', 'grep', 'mkdir', 'readlink', 'rt', 'sed', 'touch', 'tr', 'uname'} - {tool}:
+        for name in {'cat', 'dirname', 'find', 'flock', 'grep', 'mkdir', 'readlink', 'rt', 'sed', 'touch', 'tr'} - {tool}:
             found = shutil.which(name, path=self.env()['PATH'])
             if found:
                 (path / name).symlink_to(found)
@@ -130,6 +132,23 @@ mkdir -p target/bin; [ -f target/bin/{self.PROGRAM} ] || echo '{PROGRAM}' >targe
         os.utime(self.program, (0, 0))
         self.assertEqual(self.call(self.route), (0, self.answer, self.progress))
         self.assertEqual(self.call(self.route), (0, self.answer, ''))
+
+    def test_what_the_gate_has_built_is_not_proved_again(self):
+        self.call(self.route)
+        self.program.with_suffix('.stamp').unlink()
+        # what rt makes of other crates, and edits, are no sources
+        for name in ('out/rlib', 'must-fail'):
+            (self.desk / 'crates/other' / name).mkdir(parents=True)
+        before = self.calls()
+        self.assertEqual(self.call(self.route), (0, self.answer, ''))
+        self.assertEqual(self.calls(), [*before, 'doc'])
+        # but where a source is newer
+        for path in (self.desk / 'crates.txt', *(self.desk / 'crates/other' / part / 'file' for part in ('src', 'specs', 'proofs/deep'))):
+            path.parent.mkdir(parents=True, exist_ok=True)
+            path.touch()
+            os.utime(self.program, (path.stat().st_mtime - 1,) * 2)
+            self.assertEqual(self.call(self.route), (0, self.answer, self.progress))
+            self.program.with_suffix('.stamp').unlink()
 
     def test_the_status_tells_a_route_from_a_refusal(self):
         self.call(self.route)
@@ -232,7 +251,8 @@ mkdir -p target/bin; [ -f target/bin/{self.PROGRAM} ] || echo '{PROGRAM}' >targe
 
     def test_no_program_after_the_proof(self):
         self.kit(':')
-        self.fails(self.progress + self.line(f'rt check left no target/bin/{self.PROGRAM}; remove the folder target and try again'), self.route)
+        out = f'crates/{self.PROGRAM}/out'
+        self.fails(self.progress + self.line(f'rt run left no {out}/{self.PROGRAM}; remove the folder {out} and try again'), self.route)
 
     def test_a_program_that_fails(self):
         # whatever its status, and whatever it had printed
@@ -272,12 +292,13 @@ mkdir -p target/bin; [ -f target/bin/{self.PROGRAM} ] || echo '{PROGRAM}' >targe
         self.assertEqual(self.call(self.route, preexec_fn=as_nobody), (0, self.answer, older))
         self.assertEqual(self.calls(), [*before, 'doc', 'doc'])
 
-    def test_a_part_of_target_that_cannot_be_written(self):
+    def test_a_part_of_what_is_made_that_cannot_be_written(self):
         self.call(self.route)
-        note = self.desk / 'target/log/route.res'
-        note.parent.mkdir()
+        note, unmade = self.desk / 'crates/route/out/rlib/stamp', self.desk / 'crates/points'
+        note.parent.mkdir(parents=True)
         note.touch()
-        for path in (self.desk / 'target', note.parent, note, self.program.parent, self.program):
+        unmade.mkdir()
+        for path in (note.parent.parent, note.parent, note, unmade, self.program.parent, self.program):
             # all of it belongs to whoever tries, but for that path's right to be written
             for part in (self.desk, *self.desk.rglob('*')):
                 part.chmod(0o777)
@@ -293,7 +314,7 @@ mkdir -p target/bin; [ -f target/bin/{self.PROGRAM} ] || echo '{PROGRAM}' >targe
             part.chmod(0o777)
         self.assertEqual(self.call(self.route, preexec_fn=as_nobody), (0, self.answer, self.progress))
         self.assertEqual(self.call(self.route, preexec_fn=as_nobody), (0, self.answer, ''))
-        self.assertEqual(self.calls(), 2 * [f'check {self.PROGRAM}', 'doc'])
+        self.assertEqual(self.calls(), 2 * ['run', 'doc'])
 
     def test_nothing_built_where_nothing_can_be_written(self):
         self.seal()
@@ -320,7 +341,7 @@ mkdir -p target/bin; [ -f target/bin/{self.PROGRAM} ] || echo '{PROGRAM}' >targe
             # what is built and up to date is run at once
             fcntl.flock(crates, fcntl.LOCK_EX)
             self.assertEqual(self.call(self.route), (0, self.answer, ''))
-            self.assertEqual(self.calls(), [f'check {self.PROGRAM}', 'doc', 'doc'])
+            self.assertEqual(self.calls(), ['run', 'doc', 'doc'])
 
     def test_nobody_waits_where_there_is_no_flock(self):
         with open(self.desk / 'crates.txt', encoding='utf-8') as crates:
@@ -332,9 +353,9 @@ mkdir -p target/bin; [ -f target/bin/{self.PROGRAM} ] || echo '{PROGRAM}' >targe
         self.assertEqual(self.call(self.route), (0, self.answer, self.progress + 'emulated\n'))
 
     def test_the_program_itself(self):
-        # the real kit and the program that the gate has built; only rt check is a stand-in
+        # the real kit and the program that the gate has built; only rt run is a stand-in
         guide = subprocess.run(['rt', 'doc'], check=True, capture_output=True, text=True).stdout.strip()
-        self.kit(f'mkdir -p target/bin; cp "{built.ROOT}/target/bin/{self.PROGRAM}" target/bin', guide=guide)
+        self.kit(f'mkdir -p out; cp "{built.made(self.PROGRAM, self.PROGRAM, "rt ci")}" out', guide=guide)
         for status, name in ((0, 'accepted-the-documents-example'), (0, 'accepted-no-points-comma'), (1, 'refused-05-target-2,500-under-point')):
             route = built.ROOT / 'tests/routes' / f'{name}.route'
             self.assertEqual(self.call(route)[:2], (status, type(self).MODEL(route.read_bytes()).decode()))

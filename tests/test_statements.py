@@ -14,42 +14,45 @@ import built
 import definitions
 import sources
 
-LAW = re.compile(r'^use Rattle·refusals(?:·specs)?\.specs\.One\.\{One\b', re.M)
-ENTRY = re.compile(r'^pub \S+ : One (\S+)\.ended (\S+)\.Reads\.Asked (\S+)\.Reads\.Learnt$', re.M)
+LAW = re.compile(r'^use Rattle\.refusals\.specs\.One\.\{One\b', re.M)
+ENTRY = r'^pub \S+ : One contracts\.(\S+)\.ended {0}\.(\S+)\.Reads\.Asked {0}\.(\S+)\.Reads\.Learnt$'
 
 
 def listed(root, crate):
-    """The functions in a crate's list, which counts only where the crate has it checked and it speaks of the one law."""
+    """The functions in a crate's list, which counts only where the crate has it checked and it speaks of the one law and of the crate's own."""
     proofs = root / 'crates' / crate / 'proofs'
     if not (proofs / 'Unique.antt').is_file() or 'pub mod Unique' not in (proofs / 'Lib.antt').read_text(encoding='utf-8').split('\n'):
         return set()
     text = (proofs / 'Unique.antt').read_text(encoding='utf-8')
-    return {names[0] for names in ENTRY.findall(text) if len(set(names)) == 1} if LAW.search(text) else set()
+    own = {f'use Rattle.{crate}.specs.contracts as contracts', f'use Rattle.{crate}.proofs as {crate}'} <= set(text.split('\n'))
+    entries = re.findall(ENTRY.format(crate), text, re.M) if own and LAW.search(text) else []
+    return {f'{crate}.{names[0]}' for names in entries if len(set(names)) == 1}
 
 
 def strays(root):
-    """The files of the crates that neither the prover nor the gate reads, as a copy that an editor leaves behind."""
+    """The files of the crates that neither the prover nor the gate reads, as a copy that an editor leaves behind. What rt makes stands in out/."""
     kinds = re.compile(r'crates/\w+/(?:src/\w+\.rt|specs/\w+\.antt|proofs/(?:\w+/)*\w+\.antt|must-fail/\w+\.edit|stdin|stdout)')
-    for path in sorted(root.glob('crates/**/*')):
+    parts = [part for part in root.glob('crates/*/*') if part.name != 'out']
+    for path in sorted([*parts, *(path for part in parts for path in part.glob('**/*'))]):
         name = path.relative_to(root).as_posix()
         if path.is_file() and not kinds.fullmatch(name):
             yield name
 
 
-def needless(root, functions):
-    """What is excepted and need not be: a name that is no function, or one of a crate that cannot read or print."""
-    named, below = {function.name: function for function in functions}, sources.dependencies(root)
+def needless(functions):
+    """What is excepted and need not be: a name that is no function, or one that can neither read nor print."""
+    named = {function.name: function for function in functions}
     for name in sorted(sources.READ | sources.PRINT):
         if name not in named:
             yield f'{name} is excepted and cannot be called'
-        elif 'libc' not in below[named[name].crate]:
+        elif not named[name].has_stream:
             yield f'{name} is excepted and neither reads nor prints'
 
 
 def faults(root):
     """What is wrong with the functions that others can call, with the lists, and with what is excepted from them."""
     functions = list(sources.callable_functions(root))
-    found = list(needless(root, functions))
+    found = list(needless(functions))
     excepted = {name.replace('::', '.') for name in sources.READ | sources.PRINT}
     for crate in sorted({function.crate for function in functions}):
         entries = listed(root, crate)
@@ -65,48 +68,51 @@ def faults(root):
     return found
 
 
-SOURCE = '''ghost use Rattle·low·specs.specs.Says.{nextOf};
+SOURCE = '''ghost use Rattle.low.specs.Says.{next_of};
 pub mod inner;
 mod hidden;
 pub struct Pen {}
 impl Pen {
     // a method
     pub fn turn(self) -> Pen
-        ensures { λ r. ⌜ r ≡ self ⌝ }
+        ensures { result ≡ self }
     {
         self
     }
 }
 
 pub fn next(x: u32) -> u32
-    ensures { λ r. ⌜ r ≡ nextOf x ⌝ }
+    ensures least { 0 < result }
+    ensures next { result ≡ next_of x }
 {
     if x == 0 { 1 } else { x }
 }
 
 pub(crate) fn own(x: u32) -> u32
-    requires { ⌜ 0 < x ⌝ }
+    requires { 0 < x }
 {
     x
 }
 '''
-LIST = '''use Rattle·refusals.specs.One.{One, answers}
+LIST = '''use Rattle.refusals.specs.One.{One, answers}
+use Rattle.low.specs.contracts as contracts
+use Rattle.low.proofs as low
 
-pub next : One low.next.ended low.next.Reads.Asked low.next.Reads.Learnt
+pub next : One contracts.next.ended low.next.Reads.Asked low.next.Reads.Learnt
 next = answers (λ κs a v w. refl)
 
-pub turn : One low.Pen.turn.ended low.Pen.turn.Reads.Asked low.Pen.turn.Reads.Learnt
+pub turn : One contracts.Pen.turn.ended low.Pen.turn.Reads.Asked low.Pen.turn.Reads.Learnt
 turn = answers (λ κs a v w. refl)
 
-pub deep : One low.inner.deep.ended low.inner.deep.Reads.Asked low.inner.deep.Reads.Learnt
+pub deep : One contracts.inner.deep.ended low.inner.deep.Reads.Asked low.inner.deep.Reads.Learnt
 deep = answers (λ κs a v w. refl)
 '''
 SAYS = '''-- What next answers.
-use Prim.Native.Nat.{ℕ, _+_}
+use Rattle.std.specs.Prelude.{ℕ, ◌+◌}
 
 -- one more
-abbrev pub nextOf : ℕ → ℕ
-nextOf x = x + more
+abbrev pub next_of : ℕ → ℕ
+next_of x = x + more
 
 abbrev more : ℕ
 more = 1
@@ -116,7 +122,7 @@ nobodys = 2
 '''
 FILES = {
     'src/lib.rt': SOURCE,
-    'src/inner.rt': 'pub fn deep() -> u32\n    ensures { λ r. ⌜ r ≡ 1 ⌝ }\n{\n    1\n}\n',
+    'src/inner.rt': 'pub fn deep() -> u32\n    ensures { result ≡ 1 }\n{\n    1\n}\n',
     'src/hidden.rt': 'pub fn unseen() -> u32 {\n    1\n}\n',
     'proofs/Lib.antt': 'pub mod Unique\n',
     'proofs/Unique.antt': LIST,
@@ -125,10 +131,9 @@ FILES = {
 
 
 class Statements(unittest.TestCase):
-    def of(self, file=None, old='', new='', excepted=(), below=''):
-        """The faults of a small project, one text of it changed, with functions that are excepted, over the crates below."""
+    def of(self, file=None, old='', new='', excepted=()):
+        """The faults of a small project, one text of it changed, with functions that are excepted, and the definitions that it reaches."""
         with tempfile.TemporaryDirectory() as folder, mock.patch.object(sources, 'READ', set(excepted)), mock.patch.object(sources, 'PRINT', set()):
-            pathlib.Path(folder, 'crates.txt').write_text(f'# all\nlow: {below}\n', encoding='utf-8')
             for name, text in FILES.items():
                 if name == file:
                     self.assertIn(old, text)
@@ -145,43 +150,51 @@ class Statements(unittest.TestCase):
     def test_nothing_else_stands_in_a_crate(self):
         self.assertEqual(list(strays(built.ROOT)), [])
         with tempfile.TemporaryDirectory() as folder:
-            for name in (*FILES, 'specs/Says.antt.orig', 'src/lib.rs', 'proofs/next/notes', 'next.edit'):
+            for name in (*FILES, 'proofs/inner/deep/Answers.antt', 'out/low', 'out/rlib/low.rlib/format',
+                         'specs/Says.antt.orig', 'src/lib.rs', 'proofs/next/notes', 'proofs/out/notes', 'next.edit'):
                 path = pathlib.Path(folder, 'crates/low', name)
                 path.parent.mkdir(parents=True, exist_ok=True)
                 path.touch()
             self.assertEqual([name[len('crates/low/'):] for name in strays(pathlib.Path(folder))],
-                             ['next.edit', 'proofs/next/notes', 'specs/Says.antt.orig', 'src/lib.rs'])
+                             ['next.edit', 'proofs/next/notes', 'proofs/out/notes', 'specs/Says.antt.orig', 'src/lib.rs'])
 
     def test_what_is_missing_is_seen(self):
         self.assertEqual(self.of()[0], [])
         for file, old, new, fault in (
-            ('src/lib.rt', 'pub fn next(x: u32) -> u32\n', 'pub fn next(x: u32) -> u32\n    requires { ⌜ 0 < x ⌝ }\n', 'low.next has a requires'),
-            ('src/lib.rt', '    ensures { λ r. ⌜ r ≡ nextOf x ⌝ }\n', '', 'low.next has no ensures'),
+            ('src/lib.rt', 'pub fn next(x: u32) -> u32\n', 'pub fn next(x: u32) -> u32\n    requires { 0 < x }\n', 'low.next has a requires'),
+            ('src/lib.rt', '    ensures least { 0 < result }\n    ensures next { result ≡ next_of x }\n', '', 'low.next has no ensures'),
             ('src/lib.rt', 'pub(crate) fn own', 'pub fn own', 'low.own has a requires'),
             ('src/lib.rt', '\nmod hidden', '\npub mod hidden', 'low.hidden.unseen has no ensures'),
             ('src/inner.rt', 'deep', 'deeper', 'low.inner.deeper is not in the list'),
             ('src/inner.rt', 'pub fn', 'fn', 'low.inner.deep is in the list and cannot be called'),
             ('proofs/Unique.antt', 'pub turn', '-- pub turn', 'low.Pen.turn is not in the list'),
-            ('proofs/Unique.antt', 'One low.next.ended', 'One low.inner.deep.ended', 'low.next is not in the list'),
-            ('proofs/Unique.antt', 'Rattle·refusals.specs.One', 'Rattle·low·specs.specs.One', 'low.next is not in the list'),
+            ('proofs/Unique.antt', 'One contracts.next.ended', 'One contracts.inner.deep.ended', 'low.next is not in the list'),
+            ('proofs/Unique.antt', 'low.next.Reads.Learnt', 'low.inner.deep.Reads.Learnt', 'low.next is not in the list'),
+            ('proofs/Unique.antt', 'Rattle.refusals.specs.One', 'Rattle.low.specs.One', 'low.next is not in the list'),
+            ('proofs/Unique.antt', 'Rattle.low.specs.contracts', 'Rattle.high.specs.contracts', 'low.next is not in the list'),
+            ('proofs/Unique.antt', 'Rattle.low.proofs', 'Rattle.high.proofs', 'low.next is not in the list'),
             ('proofs/Lib.antt', 'pub mod Unique', 'pub mod Others', 'low.next is not in the list'),
         ):
             with self.subTest(fault):
                 self.assertIn(fault, self.of(file, old, new)[0])
 
     def test_an_exception_is_no_wider_than_it_has_to_be(self):
-        gone = 'src/inner.rt', 'deep', 'deeper'  # the list has deep
-        self.assertEqual(self.of(*gone, excepted=['low::inner::deeper'], below='io libc')[0], ['low.inner.deep is in the list and cannot be called'])
+        # the list has deep; deeper can print, and as quiet it cannot
+        gone, quiet = ('src/inner.rt', 'deep()', 'deeper(rt: &impl Print)'), ('src/inner.rt', 'deep()', 'deeper()')
+        self.assertEqual(self.of(*gone, excepted=['low::inner::deeper'])[0], ['low.inner.deep is in the list and cannot be called'])
+        for stream in ('deeper<R: Read>(from: &mut R)', 'deeper<W: Write>(to: &mut W)', 'deeper(rt: HostRuntime)'):
+            self.assertEqual(self.of(*gone[:2], stream, excepted=['low::inner::deeper'])[0], ['low.inner.deep is in the list and cannot be called'])
         for change, more, fault in (
-            (gone, {'below': 'io'}, 'low::inner::deeper is excepted and neither reads nor prints'),
+            (quiet, {}, 'low::inner::deeper is excepted and neither reads nor prints'),
+            (('src/inner.rt', 'deep() -> u32', 'deeper() -> Input::Read'), {}, 'low::inner::deeper is excepted and neither reads nor prints'),
             (gone, {'excepted': ['low::inner::deepest']}, 'low::inner::deepest is excepted and cannot be called'),
             (gone, {'excepted': ['low::next']}, 'low.inner.deeper is not in the list'),
             ((), {'excepted': ['low::inner::deep']}, 'low.inner.deep is in the list and excepted from it'),
-            (('src/inner.rt', 'pub fn deep() -> u32\n    ensures { λ r. ⌜ r ≡ 1 ⌝ }\n', 'pub fn deeper() -> u32 '), {}, 'low.inner.deeper has no ensures'),
-            (('src/inner.rt', 'pub fn deep() -> u32\n', 'pub fn deeper() -> u32\n    requires { ⌜ 0 < 1 ⌝ }\n'), {}, 'low.inner.deeper has a requires'),
+            (('src/inner.rt', 'pub fn deep() -> u32\n    ensures { result ≡ 1 }\n', 'pub fn deeper() -> u32 '), {}, 'low.inner.deeper has no ensures'),
+            (('src/inner.rt', 'pub fn deep() -> u32\n', 'pub fn deeper() -> u32\n    requires { 0 < 1 }\n'), {}, 'low.inner.deeper has a requires'),
         ):
             with self.subTest(fault):
-                self.assertIn(fault, self.of(*change, **{'excepted': ['low::inner::deeper'], 'below': 'libc', **more})[0])
+                self.assertIn(fault, self.of(*change, **{'excepted': ['low::inner::deeper'], **more})[0])
 
     def test_a_name_that_is_passed_on_is_not_passed_over(self):
         with self.assertRaises(ValueError):
@@ -189,7 +202,7 @@ class Statements(unittest.TestCase):
 
     def test_the_definitions_behind_a_contract_are_counted(self):
         texts = self.of()[1]
-        self.assertEqual({name: len(text) for (_, _, name), text in texts.items()}, {'nextOf': 45, 'more': 24})
+        self.assertEqual({name: len(text) for (_, _, name), text in texts.items()}, {'next_of': 47, 'more': 24})
 
 
 if __name__ == '__main__':
