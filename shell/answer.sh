@@ -61,7 +61,7 @@ writable() {
 
 # Proves and builds what has changed since it was last proved, by a run on no text, whose answer is not wanted. Whoever works below out/ locks
 # crates.txt, where there is a command for that: the gate puts aside what stands there. What is built and up to date need not wait. What rt ci
-# has built has no stamp by which rt run could tell that nothing has changed; it is proved, and not proved again.
+# has built has no stamp by which rt run could tell that nothing has changed; it is proved once more.
 update() {
     if command -v flock >/dev/null && ! flock -n 9; then
         ! current || return 0
@@ -73,11 +73,7 @@ update() {
         current || say "$program is older than its sources, and this checkout cannot be written: running it as it is"
         return 0
     fi
-    if current; then
-        [ -e "$built.stamp" ] || return 0
-    else
-        say "proving and building $program; the first time this takes some minutes"
-    fi
+    { current && [ -e "$built.stamp" ]; } || say "proving and building $program; the first time this takes some minutes"
     said=$(cd "crates/$program" && rt run </dev/null 2>&1) || {
         printf '%s\n' "$said" >&2
         fail "$program is not proved"

@@ -133,22 +133,22 @@ mkdir -p out; [ -f out/{self.PROGRAM} ] || echo '{PROGRAM}' >out/{self.PROGRAM};
         self.assertEqual(self.call(self.route), (0, self.answer, self.progress))
         self.assertEqual(self.call(self.route), (0, self.answer, ''))
 
-    def test_what_the_gate_has_built_is_not_proved_again(self):
+    def test_what_the_gate_has_built_is_proved_once_more(self):
         self.call(self.route)
         self.program.with_suffix('.stamp').unlink()
+        before = self.calls()
+        self.assertEqual(self.call(self.route), (0, self.answer, self.progress))
+        self.assertEqual(self.calls(), [*before, 'run', 'doc'])
         # what rt makes of other crates, and edits, are no sources
         for name in ('out/rlib', 'must-fail'):
             (self.desk / 'crates/other' / name).mkdir(parents=True)
-        before = self.calls()
         self.assertEqual(self.call(self.route), (0, self.answer, ''))
-        self.assertEqual(self.calls(), [*before, 'doc'])
         # but where a source is newer
         for path in (self.desk / 'crates.txt', *(self.desk / 'crates/other' / part / 'file' for part in ('src', 'specs', 'proofs/deep'))):
             path.parent.mkdir(parents=True, exist_ok=True)
             path.touch()
             os.utime(self.program, (path.stat().st_mtime - 1,) * 2)
             self.assertEqual(self.call(self.route), (0, self.answer, self.progress))
-            self.program.with_suffix('.stamp').unlink()
 
     def test_the_status_tells_a_route_from_a_refusal(self):
         self.call(self.route)
