@@ -73,7 +73,7 @@ update() {
         current || say "$program is older than its sources, and this checkout cannot be written: running it as it is"
         return 0
     fi
-    { current && [ -e "$built.stamp" ]; } || say "proving and building $program; the first time this takes some minutes"
+    current || say "proving and building $program; the first time this takes some minutes"
     said=$(cd "crates/$program" && rt run </dev/null 2>&1) || {
         printf '%s\n' "$said" >&2
         fail "$program is not proved"

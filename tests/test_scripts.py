@@ -137,7 +137,7 @@ mkdir -p out; [ -f out/{self.PROGRAM} ] || echo '{PROGRAM}' >out/{self.PROGRAM};
         self.call(self.route)
         self.program.with_suffix('.stamp').unlink()
         before = self.calls()
-        self.assertEqual(self.call(self.route), (0, self.answer, self.progress))
+        self.assertEqual(self.call(self.route), (0, self.answer, ''))
         self.assertEqual(self.calls(), [*before, 'run', 'doc'])
         # what rt makes of other crates, and edits, are no sources
         for name in ('out/rlib', 'must-fail'):
