@@ -374,7 +374,7 @@ WRITE(far, far, NUMBERS)
 
 /* Jobs */
 
-/* Beside the three ways: a call that makes a table, if it makes one, and does nothing else; and a reading that only judges the lines. */
+/* Beside the three ways: a call that does nothing else than begin; and a reading that only judges the lines. */
 enum { DOOR, TWIN, USUALLY, IDLE_DOOR, IDLE_TWIN, JUDGING_DOOR, JUDGING_TWIN, WAYS };
 
 typedef struct {
@@ -397,7 +397,7 @@ typedef struct {
                   [IDLE_DOOR] = senruhobi_##door##_round, [IDLE_TWIN] = twin_##door##_round}                        \
     }
 
-/* Of a door that makes no table no call is idle. */
+/* Of a door that refuses nothing no call is idle. */
 #define TABLELESS(door)                                                                                             \
     {                                                                                                               \
         .name = #door, .calls = CALLS,                                                                              \
@@ -420,7 +420,7 @@ typedef struct {
                   [IDLE_DOOR] = senruhobi_##door##_none, [IDLE_TWIN] = twin_##door##_none}                               \
     }
 
-/* Neither a size nor a writing makes a table, so no call is idle. */
+/* Neither a size nor a writing has a buffer of its own, so no call is idle. */
 #define SIZING(title, name_)                                                                                   \
     {                                                                                                          \
         .name = "route_size, " title, .calls = 1,                                                              \
@@ -513,14 +513,14 @@ static void repeat(job *j)
     compare(j);
 }
 
-/* A rest below a twentieth of the table is little more than the noise of two large figures, and has no ratio. */
-static void print_row(const char *name, const double *each, double table)
+/* A rest below a twentieth of what is idle is little more than the noise of two large figures, and has no ratio. */
+static void print_row(const char *name, const double *each, double idle)
 {
-    double door = each[DOOR], rest = door - table, twin = each[TWIN], usual = each[USUALLY];
+    double door = each[DOOR], rest = door - idle, twin = each[TWIN], usual = each[USUALLY];
     char ratio[32] = "-";
-    if (rest >= table / 20)
+    if (rest >= idle / 20)
         sprintf(ratio, "%.2f", rest / twin);
-    printf("%-25s %9.1f %8.1f %9.1f %9.1f %9.1f %10.2f %10s %11.2f\n", name, door, table, rest, twin, usual, door / twin, ratio,
+    printf("%-25s %9.1f %8.1f %9.1f %9.1f %9.1f %10.2f %10s %11.2f\n", name, door, idle, rest, twin, usual, door / twin, ratio,
            door / usual);
 }
 
@@ -556,7 +556,7 @@ static void print_jobs(int from, int end)
 
 static void print_rows(void)
 {
-    printf("%-25s %9s %8s %9s %9s %9s %10s %10s %11s\n", "ns a call", "door", "table", "rest", "twin", "usual", "door/twin", "rest/twin",
+    printf("%-25s %9s %8s %9s %9s %9s %10s %10s %11s\n", "ns a call", "door", "idle", "rest", "twin", "usual", "door/twin", "rest/twin",
            "door/usual");
     print_jobs(0, SIZE_FEW);
     print_leg("a leg inside it, near", &jobs[NEAR_JOINED], &jobs[NEAR_PARTED]);
@@ -566,8 +566,8 @@ static void print_rows(void)
     print_point("a point inside it, far", &jobs[WRITE_FAR]);
     printf("\n"
            "door    the library's own function; twin: the same rules in plain C; usual: sin, asin, atan2, sqrt, strtod, snprintf, doubles\n"
-           "table   what a call pays to make the table of sines, if it makes one: an idle call (refused, or without points) less the twin's\n"
-           "rest    door less table; no ratio below a twentieth of the table, where it is mostly noise\n"
+           "idle    an idle call (refused, or without points) less the twin's: a reading clears a buffer of its own, and no other call has one\n"
+           "rest    door less idle; no ratio below a twentieth of it, where it is mostly noise\n"
            "few     %d points of a walk; near: %d of them; far: %d points from all round the globe\n"
            "met     once so many of the near points are looked at, out of %d\n"
            "joined  a leg into each point but the first; parted: `g` between all points, and no leg\n"

@@ -4,7 +4,7 @@ from typing import NamedTuple
 
 FUNCTION = re.compile(r'^([ \t]*)pub (?:(?:const|unsafe|extern "C") )*fn (\w+)', re.M)
 ANY_FUNCTION = re.compile(r'^(?:[ \t]*(?:#\[.*\]|//.*)\n)*([ \t]*)(?:pub(?:\([^)]*\))? )?(?:(?:const|unsafe|extern "C") )*fn (\w+)', re.M)
-TYPE = re.compile(r'^impl (\w+)', re.M)
+TYPE = re.compile(r'^impl(?:<[^>\n]*>)? (?:[^{\n]* for )?(\w+)', re.M)
 MODULE = re.compile(r'^pub mod (\w+);', re.M)
 IMPORT = re.compile(r'^ghost use ([^;]*);$', re.M)
 

@@ -50,19 +50,20 @@ def figures(accuracy, bench):
     pole, antipode = (row(accuracy, leg)[0] for leg in ('1 km, near a pole', 'nearly to the antipode'))
     courses = accuracy[accuracy.rindex('| a leg of about |'):]  # the second table
     short, longer = (row(courses, f'{leg} |')[0] for leg in ('1 m', '1 km'))
-    # the mean of those that make a table of sines for one answer
-    calls = [row(bench, door)[0] for door in model.DOORS if door not in ('measure', 'target_met', 'read_route', 'route_size', 'write_route', 'root_steps')]
+    there, back, leg, course = ([row(bench, f'{door} ')[0] for door in doors] for doors in (
+        ('long_sine', 'long_sine_half', 'short_sine', 'cylindrical', 'sinusoidal'), ('cylindrical_back', 'sinusoidal_back'), ('leg',), ('course',)))
     return [f'{math.ceil(near)} mm in legs of up to 100 km',
             f'{pole / 1e3:.0f} m in a leg of 1 km close to a pole',
             f'{antipode / 1e6:.2f} km in one that leads nearly to the other side',
             f'{math.ceil(10 * short) / 10} degrees from the true one in a leg of 1 m',
             f'{math.ceil(1000 * longer) / 1000} in one of 1 km',
-            f'a call takes some {sum(calls) / len(calls) / 1e3:.1f} microseconds',
+            f'a sine or a place takes some {min(there):.0f} to {max(there):.0f} nanoseconds, a way back {min(back):.0f} to {max(back):.0f}, ',
+            f'a leg some {leg[0]:.0f} and a course some {course[0]:.0f}.',
             f'take some {row(bench, "root_steps")[0]:.0f} nanoseconds',
-            f'a route of 1,000 points takes some {row(bench, "read_route, near, joined")[0] / 1e6:.1f} milliseconds',
-            f'writing it back, which needs no table, some {row(bench, "write_route, near")[0] / 1e6:.2f}, ',
+            f'a route of 1,000 points takes some {row(bench, "read_route, near, joined")[0] / 1e6:.2f} milliseconds',
+            f'writing it back some {row(bench, "write_route, near")[0] / 1e6:.2f}, ',
             f'asking for its size alone some {row(bench, "route_size, near")[0] / 1e6:.2f}, ',
-            f'point by point, some {row(bench, "pen_step")[0] / 1e3:.1f} milliseconds',
+            f'point by point, some {row(bench, "pen_step")[0] / 1e3:.2f} milliseconds',
             f'the first 10 of its points meet takes some {row(bench, "target_met, 10 points")[0] / 1e3:.0f} microseconds']
 
 

@@ -18,6 +18,7 @@ CONSTANTS = {'NUMBERS': 'points', 'MOST_POINTS': 'points', 'MOST_NUMBERS': 'poin
              'MOST_PAIRS': 'roots'}
 IN_RATTLE = re.compile(r'\bconst (\w+): \w+ = ([\w *]+);')
 IN_C = re.compile(r'\bSENRUHOBI_(\w+) = ([\w *]*\w)')
+REFUSAL = re.compile(r'Refusal::(\w+) => (\d+),')
 REFUSED = re.compile(r'SENRUHOBI_REFUSED_(\w+) = (\d+),? /\* (.*) \*/')
 DOOR = re.compile(r'^senruhobi_\w+ (senruhobi_\w+)\(', re.M)
 
@@ -56,7 +57,7 @@ class Header(unittest.TestCase):
         wanted = {'OUTSIDE': model.OUTSIDE, 'MOVE': model.MOVE, 'LINE': model.LINE}
         wanted.update((name, constants(IN_RATTLE, source(crate))[name]) for name, crate in CONSTANTS.items())
         found = {name for name in wanted if said.get(name) != wanted[name]}
-        refusals = constants(IN_RATTLE, source('refusals'))
+        refusals = {name.upper(): int(number) for name, number in REFUSAL.findall(source('refusals'))}
         named = {name: int(number) for name, number, _ in REFUSED.findall(header)}
         return found | {name for name in refusals.keys() | named.keys() if refusals.get(name) != named.get(name)}
 

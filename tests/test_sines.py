@@ -1,6 +1,6 @@
 """Every entry of the table of sines against the sine itself, as sine.py works it out.
 
-The numbers are read out of the Rattle source, so that the const itself is compared.
+The numbers are read out of the Rattle source, so that the static itself is compared.
 """
 import math
 import pathlib
@@ -14,8 +14,8 @@ TABLE = pathlib.Path(__file__).resolve().parent.parent / 'crates/sines/src/table
 
 
 def numbers_of(path):
-    """The numbers of the const SINES in a Rattle source."""
-    found = re.search(r'const SINES: \[u64; (\d+)\] = \[([\d_,\s]*)\];', path.read_text(encoding='utf-8'))
+    """The numbers of the static SINES in a Rattle source."""
+    found = re.search(r'static SINES: \[u64; (\d+)\] = \[([\d_,\s]*)\];', path.read_text(encoding='utf-8'))
     numbers = [int(word) for word in found.group(2).split(',') if word.strip()]
     if len(numbers) != int(found.group(1)):
         raise ValueError(f'{len(numbers)} numbers, where the type says {found.group(1)}')
@@ -23,7 +23,7 @@ def numbers_of(path):
 
 
 def differences(path):
-    """The places at which the const of a source is not the table."""
+    """The places at which the static of a source is not the table."""
     numbers = numbers_of(path)
     if len(numbers) != len(ENTRIES):
         return [f'{len(numbers)} entries']

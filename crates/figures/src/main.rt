@@ -4,285 +4,290 @@
 
 mod pens;
 
-use globe::{Length, Place, Point, Sine};
+use globe::{Place, Point};
 use points::{MOST_NUMBERS, NUMBERS, put};
-use route::{Reading, Target, read};
-use signed::{size32, size64};
+use refusals::Refusal;
+use route::{Refused, Route, read};
 use std::io;
 
 const NORTH: i32 = 900_000_000;
 
 const EAST: i32 = 1_800_000_000;
 
-const WEST: i32 = -1_800_000_000;
-
-const LEAST: i64 = -9_223_372_036_854_775_808;
+const WEST: i32 = -EAST;
 
 // The numbers of two points.
 const TWO: usize = 2 * NUMBERS;
 
-fn text(rt: &impl Print, s: &[u8]) -> io::Result<()> {
-    rt.write_all(s)
+// What is printed of an answer, each number behind a tab.
+pub(crate) trait Answer: Copy {
+    fn print<P: Print>(self, rt: &P) -> io::Result<()>;
 }
 
-fn field(rt: &impl Print, negative: bool, size: u64) -> io::Result<()> {
-    text(rt, b"\t")?;
-    if negative {
-        text(rt, b"-")?;
+impl Answer for i64 {
+    fn print<P: Print>(self, rt: &P) -> io::Result<()> {
+        print!(rt; "\t{self}")
     }
-    print!(rt; "{size}")
 }
 
-fn number(rt: &impl Print, n: i64) -> io::Result<()> {
-    field(rt, n < 0, size64(n))
-}
-
-fn ticks(rt: &impl Print, n: i32) -> io::Result<()> {
-    field(rt, n < 0, size32(n) as u64)
-}
-
-fn refused(rt: &impl Print, n: u32) -> io::Result<()> {
-    text(rt, b"\trefused\t")?;
-    print!(rt; "{n}")
-}
-
-fn sine(rt: &impl Print, name: &[u8], s: Sine) -> io::Result<()> {
-    text(rt, name)?;
-    match s {
-        Sine::Value(v) => number(rt, v)?,
-        Sine::Refused(n) => refused(rt, n)?,
+impl Answer for u64 {
+    fn print<P: Print>(self, rt: &P) -> io::Result<()> {
+        print!(rt; "\t{self}")
     }
-    text(rt, b"\n")
 }
 
-fn place(rt: &impl Print, name: &[u8], p: Place) -> io::Result<()> {
-    text(rt, name)?;
-    match p {
-        Place::At(x, y) => {
-            number(rt, x)?;
-            number(rt, y)?;
+impl Answer for Place {
+    fn print<P: Print>(self, rt: &P) -> io::Result<()> {
+        print!(rt; "\t{}\t{}", self.x, self.y)
+    }
+}
+
+impl Answer for Point {
+    fn print<P: Print>(self, rt: &P) -> io::Result<()> {
+        print!(rt; "\t{}\t{}", self.latitude, self.longitude)
+    }
+}
+
+impl Answer for Route {
+    fn print<P: Print>(self, rt: &P) -> io::Result<()> {
+        print!(rt; "\t{}\t{}", self.points, self.length)?;
+        match self.target {
+            Some(target) => print!(rt; "\t{target}"),
+            None => print!(rt; "\tnone"),
         }
-        Place::Refused(n) => refused(rt, n)?,
     }
-    text(rt, b"\n")
 }
 
-fn point(rt: &impl Print, name: &[u8], p: Point) -> io::Result<()> {
-    text(rt, name)?;
-    match p {
-        Point::At(latitude, longitude) => {
-            ticks(rt, latitude)?;
-            ticks(rt, longitude)?;
+impl Answer for Refusal {
+    fn print<P: Print>(self, rt: &P) -> io::Result<()> {
+        print!(rt; "\trefused\t{self}")
+    }
+}
+
+impl Answer for Refused {
+    fn print<P: Print>(self, rt: &P) -> io::Result<()> {
+        self.refusal.print(rt)?;
+        print!(rt; "\t{}", self.line)
+    }
+}
+
+impl<T: Answer, E: Answer> Answer for Result<T, E> {
+    fn print<P: Print>(self, rt: &P) -> io::Result<()> {
+        match self {
+            Ok(value) => value.print(rt),
+            Err(refused) => refused.print(rt),
         }
-        Point::Refused(n) => refused(rt, n)?,
     }
-    text(rt, b"\n")
 }
 
-fn length(rt: &impl Print, name: &[u8], l: Length) -> io::Result<()> {
-    text(rt, name)?;
-    match l {
-        Length::Millimetres(n) => field(rt, false, n)?,
-        Length::Refused(n) => refused(rt, n)?,
+fn at(latitude: i32, longitude: i32) -> Point {
+    Point {
+        latitude,
+        longitude,
     }
-    text(rt, b"\n")
+}
+
+fn place(x: i64, y: i64) -> Place {
+    Place { x, y }
+}
+
+fn line<A: Answer>(rt: &impl Print, name: &str, answer: A) -> io::Result<()> {
+    print!(rt; "{name}")?;
+    answer.print(rt)?;
+    println!(rt)
 }
 
 fn long_sines(rt: &impl Print) -> io::Result<()> {
-    sine(rt, b"long sine of 1 tick", globe::long_sine(1))?;
-    sine(rt, b"long sine of -1 tick", globe::long_sine(-1))?;
-    sine(
+    line(rt, "long sine of 1 tick", globe::long_sine(1))?;
+    line(rt, "long sine of -1 tick", globe::long_sine(-1))?;
+    line(rt, "long sine of 30 degrees", globe::long_sine(300_000_000))?;
+    line(rt, "long sine of -90 degrees", globe::long_sine(-NORTH))?;
+    line(
         rt,
-        b"long sine of 30 degrees",
-        globe::long_sine(300_000_000),
-    )?;
-    sine(rt, b"long sine of -90 degrees", globe::long_sine(-NORTH))?;
-    sine(
-        rt,
-        b"long sine of 90.0000001 degrees",
+        "long sine of 90.0000001 degrees",
         globe::long_sine(NORTH + 1),
     )
 }
 
 fn long_sines_half(rt: &impl Print) -> io::Result<()> {
-    sine(rt, b"long sine of 1 half tick", globe::long_sine_half(1))?;
-    sine(rt, b"long sine of 2 half ticks", globe::long_sine_half(2))?;
-    sine(
+    line(rt, "long sine of 1 half tick", globe::long_sine_half(1))?;
+    line(rt, "long sine of 2 half ticks", globe::long_sine_half(2))?;
+    line(
         rt,
-        b"long sine of 90 degrees in half ticks",
+        "long sine of 90 degrees in half ticks",
         globe::long_sine_half(1_800_000_000),
     )?;
-    sine(
+    line(
         rt,
-        b"long sine of 90 degrees and a half tick",
+        "long sine of 90 degrees and a half tick",
         globe::long_sine_half(1_800_000_001),
     )?;
-    sine(rt, b"long sine of -1 half tick", globe::long_sine_half(-1))
+    line(rt, "long sine of -1 half tick", globe::long_sine_half(-1))
 }
 
 fn long_sines_around(rt: &impl Print) -> io::Result<()> {
-    sine(
+    line(
         rt,
-        b"long sine of 150 degrees",
+        "long sine of 150 degrees",
         globe::long_sine(1_500_000_000),
     )?;
-    sine(
+    line(
         rt,
-        b"long sine of -150 degrees",
+        "long sine of -150 degrees",
         globe::long_sine(-1_500_000_000),
     )?;
-    sine(
+    line(
         rt,
-        b"long sine of 179.9999999 degrees",
+        "long sine of 179.9999999 degrees",
         globe::long_sine(EAST - 1),
     )?;
-    sine(rt, b"long sine of 180 degrees", globe::long_sine(EAST))?;
-    sine(rt, b"long sine of -180 degrees", globe::long_sine(WEST))?;
-    sine(
+    line(rt, "long sine of 180 degrees", globe::long_sine(EAST))?;
+    line(rt, "long sine of -180 degrees", globe::long_sine(WEST))?;
+    line(
         rt,
-        b"long sine of 180.0000001 degrees",
+        "long sine of 180.0000001 degrees",
         globe::long_sine(EAST + 1),
     )?;
-    sine(
+    line(
         rt,
-        b"long sine of the least number",
-        globe::long_sine(-2_147_483_648),
+        "long sine of the least number",
+        globe::long_sine(i32::MIN),
     )
 }
 
 fn short_sines(rt: &impl Print) -> io::Result<()> {
-    sine(rt, b"short sine of 1 tick", globe::short_sine(1))?;
-    sine(rt, b"short sine of -1 tick", globe::short_sine(-1))?;
-    sine(
+    line(rt, "short sine of 1 tick", globe::short_sine(1))?;
+    line(rt, "short sine of -1 tick", globe::short_sine(-1))?;
+    line(
         rt,
-        b"short sine of -179.9999999 degrees",
+        "short sine of -179.9999999 degrees",
         globe::short_sine(WEST + 1),
     )
 }
 
 fn cylindrical(rt: &impl Print) -> io::Result<()> {
-    place(
+    line(
         rt,
-        b"cylindrical 30 N 10 E",
-        globe::cylindrical(300_000_000, 100_000_000, 0),
+        "cylindrical 30 N 10 E",
+        globe::cylindrical(at(300_000_000, 100_000_000), 0),
     )?;
-    place(
+    line(
         rt,
-        b"cylindrical, longitude 179.9999999, meridian -180",
-        globe::cylindrical(0, EAST - 1, WEST),
+        "cylindrical, longitude 179.9999999, meridian -180",
+        globe::cylindrical(at(0, EAST - 1), WEST),
     )?;
-    place(
+    line(
         rt,
-        b"cylindrical, longitude 0, meridian -180",
-        globe::cylindrical(0, 0, WEST),
+        "cylindrical, longitude 0, meridian -180",
+        globe::cylindrical(at(0, 0), WEST),
     )?;
-    place(
+    line(
         rt,
-        b"cylindrical, longitude -180",
-        globe::cylindrical(0, WEST, 0),
+        "cylindrical, longitude -180",
+        globe::cylindrical(at(0, WEST), 0),
     )
 }
 
 fn cylindrical_refusals(rt: &impl Print) -> io::Result<()> {
-    place(
+    line(
         rt,
-        b"cylindrical, longitude 180",
-        globe::cylindrical(0, EAST, 0),
+        "cylindrical, longitude 180",
+        globe::cylindrical(at(0, EAST), 0),
     )?;
-    place(
+    line(
         rt,
-        b"cylindrical, all out of range",
-        globe::cylindrical(NORTH + 1, EAST, EAST),
+        "cylindrical, all out of range",
+        globe::cylindrical(at(NORTH + 1, EAST), EAST),
     )?;
-    place(
+    line(
         rt,
-        b"cylindrical, latitude and longitude out of range",
-        globe::cylindrical(NORTH + 1, EAST, 0),
+        "cylindrical, latitude and longitude out of range",
+        globe::cylindrical(at(NORTH + 1, EAST), 0),
     )
 }
 
 fn cylindrical_back(rt: &impl Print) -> io::Result<()> {
-    point(
+    line(
         rt,
-        b"cylindrical back (0, 17453)",
-        globe::cylindrical_back(0, 17_453, 0),
+        "cylindrical back (0, 17453)",
+        globe::cylindrical_back(place(0, 17_453), 0),
     )?;
-    point(
+    line(
         rt,
-        b"cylindrical back (-1, 0), meridian -180",
-        globe::cylindrical_back(-1, 0, WEST),
+        "cylindrical back (-1, 0), meridian -180",
+        globe::cylindrical_back(place(-1, 0), WEST),
     )
 }
 
 fn cylindrical_back_refusals(rt: &impl Print) -> io::Result<()> {
-    point(
+    line(
         rt,
-        b"cylindrical back (0, 17454)",
-        globe::cylindrical_back(0, 17_454, 0),
+        "cylindrical back (0, 17454)",
+        globe::cylindrical_back(place(0, 17_454), 0),
     )?;
-    point(
+    line(
         rt,
-        b"cylindrical back, offset 180",
-        globe::cylindrical_back(1_800_000_000, 0, 0),
+        "cylindrical back, offset 180",
+        globe::cylindrical_back(place(1_800_000_000, 0), 0),
     )?;
-    point(
+    line(
         rt,
-        b"cylindrical back, the least numbers",
-        globe::cylindrical_back(LEAST, LEAST, 0),
+        "cylindrical back, the least numbers",
+        globe::cylindrical_back(place(i64::MIN, i64::MIN), 0),
     )?;
-    point(
+    line(
         rt,
-        b"cylindrical back, meridian 180",
-        globe::cylindrical_back(0, 17_454, EAST),
+        "cylindrical back, meridian 180",
+        globe::cylindrical_back(place(0, 17_454), EAST),
     )
 }
 
 fn sinusoidal(rt: &impl Print) -> io::Result<()> {
-    place(
+    line(
         rt,
-        b"sinusoidal 60 N 10 E",
-        globe::sinusoidal(600_000_000, 100_000_000, 0),
+        "sinusoidal 60 N 10 E",
+        globe::sinusoidal(at(600_000_000, 100_000_000), 0),
     )?;
-    place(
+    line(
         rt,
-        b"sinusoidal 90 N 10 E",
-        globe::sinusoidal(NORTH, 100_000_000, 0),
+        "sinusoidal 90 N 10 E",
+        globe::sinusoidal(at(NORTH, 100_000_000), 0),
     )
 }
 
 fn sinusoidal_back(rt: &impl Print) -> io::Result<()> {
-    point(
+    line(
         rt,
-        b"sinusoidal 60 N 10 E back",
-        globe::sinusoidal_back(50_000_000_000_000_000, 600_000_000, 0),
+        "sinusoidal 60 N 10 E back",
+        globe::sinusoidal_back(place(50_000_000_000_000_000, 600_000_000), 0),
     )?;
-    point(
+    line(
         rt,
-        b"sinusoidal back (0, 90 N), meridian 5 E",
-        globe::sinusoidal_back(0, 900_000_000, 50_000_000),
+        "sinusoidal back (0, 90 N), meridian 5 E",
+        globe::sinusoidal_back(place(0, 900_000_000), 50_000_000),
     )
 }
 
 fn sinusoidal_back_refusals(rt: &impl Print) -> io::Result<()> {
-    point(
+    line(
         rt,
-        b"sinusoidal 60 N 10 E back, x one more",
-        globe::sinusoidal_back(50_000_000_000_000_001, 600_000_000, 0),
+        "sinusoidal 60 N 10 E back, x one more",
+        globe::sinusoidal_back(place(50_000_000_000_000_001, 600_000_000), 0),
     )?;
-    point(
+    line(
         rt,
-        b"sinusoidal 60 N back, offset 180",
-        globe::sinusoidal_back(900_000_000_000_000_000, 600_000_000, 0),
+        "sinusoidal 60 N back, offset 180",
+        globe::sinusoidal_back(place(900_000_000_000_000_000, 600_000_000), 0),
     )?;
-    point(
+    line(
         rt,
-        b"sinusoidal back (1, 90 N), meridian 5 E",
-        globe::sinusoidal_back(1, 900_000_000, 50_000_000),
+        "sinusoidal back (1, 90 N), meridian 5 E",
+        globe::sinusoidal_back(place(1, 900_000_000), 50_000_000),
     )?;
-    point(
+    line(
         rt,
-        b"sinusoidal back, the least numbers",
-        globe::sinusoidal_back(LEAST, LEAST, 0),
+        "sinusoidal back, the least numbers",
+        globe::sinusoidal_back(place(i64::MIN, i64::MIN), 0),
     )
 }
 
@@ -296,63 +301,66 @@ fn short_cosines(rt: &impl Print) -> io::Result<()> {
 
 // With an offset of 1 tick x is the short cosine.
 fn near_pole(rt: &impl Print, latitude: i32) -> io::Result<()> {
-    place(
+    line(
         rt,
-        b"sinusoidal near the pole",
-        globe::sinusoidal(latitude, 1, 0),
+        "sinusoidal near the pole",
+        globe::sinusoidal(at(latitude, 1), 0),
     )
 }
 
 fn short_legs(rt: &impl Print) -> io::Result<()> {
-    length(rt, b"leg to the same point", globe::leg(0, 0, 0, 0))?;
-    length(rt, b"leg of 1 tick north", globe::leg(0, 0, 1, 0))?;
-    length(rt, b"leg of 2 ticks north", globe::leg(0, 0, 2, 0))?;
-    length(rt, b"leg of 3 ticks north", globe::leg(0, 0, 3, 0))?;
-    length(rt, b"leg of 1 tick east", globe::leg(0, 0, 0, 1))?;
-    length(
+    line(rt, "leg to the same point", globe::leg(at(0, 0), at(0, 0)))?;
+    line(rt, "leg of 1 tick north", globe::leg(at(0, 0), at(1, 0)))?;
+    line(rt, "leg of 2 ticks north", globe::leg(at(0, 0), at(2, 0)))?;
+    line(rt, "leg of 3 ticks north", globe::leg(at(0, 0), at(3, 0)))?;
+    line(rt, "leg of 1 tick east", globe::leg(at(0, 0), at(0, 1)))?;
+    line(
         rt,
-        b"leg of 1 tick east at 60 N",
-        globe::leg(600_000_000, 0, 600_000_000, 1),
+        "leg of 1 tick east at 60 N",
+        globe::leg(at(600_000_000, 0), at(600_000_000, 1)),
     )
 }
 
 fn long_legs(rt: &impl Print) -> io::Result<()> {
-    length(
+    line(
         rt,
-        b"leg from 179.9 E to 179.9 W",
-        globe::leg(0, 1_799_000_000, 0, -1_799_000_000),
+        "leg from 179.9 E to 179.9 W",
+        globe::leg(at(0, 1_799_000_000), at(0, -1_799_000_000)),
     )?;
-    length(
+    line(
         rt,
-        b"leg from pole to pole",
-        globe::leg(NORTH, 0, -NORTH, 0),
+        "leg from pole to pole",
+        globe::leg(at(NORTH, 0), at(-NORTH, 0)),
     )?;
-    length(
+    line(
         rt,
-        b"leg along a quarter of the equator",
-        globe::leg(0, 0, 0, NORTH),
+        "leg along a quarter of the equator",
+        globe::leg(at(0, 0), at(0, NORTH)),
     )?;
-    length(
+    line(
         rt,
-        b"leg on which m is floored first",
-        globe::leg(-388_974_850, 745_373_330, 268_723_365, -1_239_838_359),
+        "leg on which m is floored first",
+        globe::leg(
+            at(-388_974_850, 745_373_330),
+            at(268_723_365, -1_239_838_359),
+        ),
     )?;
-    length(
+    line(
         rt,
-        b"leg near the antipode",
-        globe::leg(0, 0, 0, 1_799_990_000),
+        "leg near the antipode",
+        globe::leg(at(0, 0), at(0, 1_799_990_000)),
     )?;
-    length(
+    line(
         rt,
-        b"leg, both points out of range",
-        globe::leg(0, EAST, NORTH + 1, 0),
+        "leg, both points out of range",
+        globe::leg(at(0, EAST), at(NORTH + 1, 0)),
     )
 }
 
 // A point at 0, 0 and one two ticks north of it at a longitude, with their third numbers.
 fn two_points(
     rt: &impl Print,
-    name: &[u8],
+    name: &str,
     first: i32,
     longitude: i32,
     second: i32,
@@ -360,106 +368,85 @@ fn two_points(
     let mut two = [0; TWO];
     put(&mut two, 0, 0, 0, first);
     put(&mut two, 1, 2, longitude, second);
-    length(rt, name, globe::measure(&two))
+    line(rt, name, globe::measure(&two))
 }
 
 fn buffers(rt: &impl Print) -> io::Result<()> {
-    length(rt, b"no points", globe::measure(&[]))?;
-    two_points(rt, b"two points", 1, 0, 0)?;
-    two_points(rt, b"two points, the pen up between", 1, 0, 1)
+    line(rt, "no points", globe::measure(&[]))?;
+    two_points(rt, "two points", 1, 0, 0)?;
+    two_points(rt, "two points, the pen up between", 1, 0, 1)
 }
 
 fn buffer_refusals(rt: &impl Print) -> io::Result<()> {
     let mut more = [0; TWO + 1];
     put(&mut more, 0, 0, 0, 1);
-    length(rt, b"two points and a number more", globe::measure(&more))?;
-    two_points(rt, b"a third number of 2", 1, 0, 2)?;
-    two_points(rt, b"a first third number of 0", 0, 0, 0)?;
-    two_points(rt, b"a second point out of range", 1, EAST, 0)
+    line(rt, "two points and a number more", globe::measure(&more))?;
+    two_points(rt, "a third number of 2", 1, 0, 2)?;
+    two_points(rt, "a first third number of 0", 0, 0, 0)?;
+    two_points(rt, "a second point out of range", 1, EAST, 0)
 }
 
 fn long_buffers(rt: &impl Print) -> io::Result<()> {
     let mut most = [0; MOST_NUMBERS];
     put(&mut most, 0, 0, 0, 1);
-    length(rt, b"1,000 points", globe::measure(&most))?;
+    line(rt, "1,000 points", globe::measure(&most))?;
     let mut more = [0; MOST_NUMBERS + NUMBERS];
     put(&mut more, 0, 0, 0, 1);
-    length(rt, b"1,001 points", globe::measure(&more))
-}
-
-fn goal(rt: &impl Print, t: Target) -> io::Result<()> {
-    match t {
-        Target::Millimetres(n) => field(rt, false, n),
-        Target::None => text(rt, b"\tnone"),
-    }
-}
-
-fn numbers(rt: &impl Print, buffer: &[i32]) -> io::Result<()> {
-    for n in buffer {
-        ticks(rt, *n)?;
-    }
-    Ok(())
+    line(rt, "1,001 points", globe::measure(&more))
 }
 
 // The answer, then every number of the buffer.
-fn reading(rt: &impl Print, name: &[u8], r: Reading, buffer: &[i32]) -> io::Result<()> {
-    text(rt, name)?;
-    match r {
-        Reading::Route {
-            points,
-            length,
-            target,
-        } => {
-            field(rt, false, points as u64)?;
-            field(rt, false, length)?;
-            goal(rt, target)?;
-        }
-        Reading::Refused(n, line) => {
-            refused(rt, n)?;
-            field(rt, false, line as u64)?;
-        }
+fn reading(
+    rt: &impl Print,
+    name: &str,
+    answer: Result<Route, Refused>,
+    buffer: &[i32],
+) -> io::Result<()> {
+    print!(rt; "{name}")?;
+    answer.print(rt)?;
+    for n in buffer {
+        print!(rt; "\t{n}")?;
     }
-    numbers(rt, buffer)?;
-    text(rt, b"\n")
+    println!(rt)
 }
 
 fn routes(rt: &impl Print) -> io::Result<()> {
     let mut a = [9; TWO + 2];
     let r = read(b"route\tpoint\np\t0\t0\np\t0.0000002\t0\n", &mut a);
-    reading(rt, b"two points, and room for two numbers more", r, &a)?;
+    reading(rt, "two points, and room for two numbers more", r, &a)?;
     let mut b = [9; TWO];
     let s = read(
         b"route\tcomma\nt\t2,5\np\t0\t0\ng\np\t0\t0,0000002\n",
         &mut b,
     );
-    reading(rt, b"a target, and the pen up between two points", s, &b)?;
+    reading(rt, "a target, and the pen up between two points", s, &b)?;
     let t = read(b"route\tpoint\n", &mut []);
-    reading(rt, b"no points into no numbers", t, &[])
+    reading(rt, "no points into no numbers", t, &[])
 }
 
-fn marked(rt: &impl Print, name: &[u8], text: &[u8]) -> io::Result<()> {
+fn marked(rt: &impl Print, name: &str, text: &[u8]) -> io::Result<()> {
     reading(rt, name, read(text, &mut []), &[])
 }
 
 // Whether a comma or a point is the decimal mark is said by line 1, and nothing is guessed.
 fn marks(rt: &impl Print) -> io::Result<()> {
-    marked(rt, b"2,500 under comma", b"route\tcomma\nt\t2,500\n")?;
-    marked(rt, b"2,500 under point", b"route\tpoint\nt\t2,500\n")?;
-    marked(rt, b"5, under comma", b"route\tcomma\nt\t5,\n")?;
-    marked(rt, b"1.234,5 under comma", b"route\tcomma\nt\t1.234,5\n")?;
-    marked(rt, b"1.234,5 under point", b"route\tpoint\nt\t1.234,5\n")
+    marked(rt, "2,500 under comma", b"route\tcomma\nt\t2,500\n")?;
+    marked(rt, "2,500 under point", b"route\tpoint\nt\t2,500\n")?;
+    marked(rt, "5, under comma", b"route\tcomma\nt\t5,\n")?;
+    marked(rt, "1.234,5 under comma", b"route\tcomma\nt\t1.234,5\n")?;
+    marked(rt, "1.234,5 under point", b"route\tpoint\nt\t1.234,5\n")
 }
 
 fn route_refusals(rt: &impl Print) -> io::Result<()> {
     let mut a = [9; TWO - 1];
     let r = read(b"route\tpoint\np\t0\t0\np\t0.0000002\t0\n", &mut a);
-    reading(rt, b"two points, and room for a number less", r, &a)?;
+    reading(rt, "two points, and room for a number less", r, &a)?;
     let mut b = [9; TWO];
     let s = read(b"route\tpoint\np\t1\t2\np\t3\t4.\n", &mut b);
-    reading(rt, b"a good line, then a bad one", s, &b)?;
+    reading(rt, "a good line, then a bad one", s, &b)?;
     let mut c = [9; NUMBERS - 1];
     let t = read(b"route\tpoint\np\t1\t2\ng\n", &mut c);
-    reading(rt, b"a last g, and too few numbers", t, &c)
+    reading(rt, "a last g, and too few numbers", t, &c)
 }
 
 fn main(rt: HostRuntime) -> io::Result<()> {

@@ -10,7 +10,6 @@ use Rattle.signed.specs.SignLaws.{as_size}
 use Rattle.sines.specs.Table.{unit}
 use Rattle.sines.specs.Sine.{quarter, long_sine, short_unit, quarter_halves}
 use Rattle.sines.proofs.SineLaws.{long_sine_zero, long_sine_top, long_sine_lt, short_sine_top, short_sine_some}
-use Rattle.refusals.specs.Choice.{answered}
 use Rattle.refusals.specs.Tests.{and_true, clash}
 use Rattle.ticks.specs.Ticks.{is_latitude}
 use Rattle.ticks.proofs.TickLaws.{latitude_size}
@@ -20,11 +19,6 @@ use Rattle.globe.specs.Angle.{signed_long_sine, short_cosine, is_halves}
 pub halves_size : (z : ℤ) → is_halves z ≡ true → nat_abs z ≤ quarter_halves
 halves_size (pos n) e = leb-true n quarter_halves (and_true (le_z (pos 0) (pos n)) (le_z (pos n) (pos quarter_halves)) e).1
 halves_size (negsuc n) e = clash e refl
-
--- a refusal is what is answered
-pub refused : {A : Type 0} (f : ℕ → A) (r : ℕ) (v : A) → (r ≡ 0 → ⊥) → f r ≡ answered r f v
-refused f zero v n = absurd (n refl)
-refused f (suc r) v n = refl
 
 pub cosine_top : (lat : ℤ) → short_cosine lat ≤ short_unit
 unfolding short_cosine

@@ -1,10 +1,11 @@
 -- What is promised of a course, in the paper's own numbers.
 -- Assumes nothing.
-use Rattle.std.specs.Prelude.{◌≡◌, refl, ◌↔◌, Bool, true, false, ◌&&◌, ℕ, zero, suc, ◌+◌, ◌-◌, ◌*◌, ◌/◌, ◌%◌, ◌≤◌, ◌<◌, min, ℤ, pos, negsuc, neg_ℤ, nat_abs, ◌-ℤ◌, ◌*ℤ◌, if◌then◌else◌}
+use Rattle.std.specs.Prelude.{◌≡◌, refl, ◌↔◌, Bool, true, false, ◌&&◌, ℕ, zero, suc, ◌+◌, ◌-◌, ◌*◌, ◌/◌, ◌%◌, ◌≤◌, ◌<◌, min, ℤ, pos, negsuc, neg_ℤ, nat_abs, ◌-ℤ◌, ◌*ℤ◌, if◌then◌else◌, Result, Ok, Err}
 use Rattle.std.proofs.Common.{sym, ap, ap₂, ◌∙◌, arith}
 use Rattle.std.specs.Int.Signed.{lt_z}
-use Rattle.refusals.specs.Refusal.{COURSE}
-use Rattle.refusals.specs.Choice.{answered}
+use Rattle.refusals.specs.declared.Refusal.{Refusal}
+use Rattle.refusals.specs.declared.Refusal.TheVariants as R
+use Rattle.refusals.specs.Choice.{Check, answered, unrefused}
 use Rattle.refusals.specs.Tests.{by_test, clash, and_true, true_and}
 use Rattle.signed.specs.Sides.{above, below, size_neg}
 use Rattle.signed.specs.Sign.{sign_as}
@@ -16,10 +17,7 @@ use Rattle.sines.specs.Slope.{slope_of}
 use Rattle.sines.proofs.SlopeLaws.{slope_top, slope_low, slope_high, slope_up, slope_flat}
 use Rattle.ticks.specs.Ticks.{half, full_turn, is_latitude, is_longitude, is_angle, accepted, folded, offset_of, point_refusal}
 use Rattle.ticks.proofs.TickLaws.{size_latitude, size_angle, latitude_angle, is_longitude_lem, offset_longitude, offset_from, no_offset}
-use Rattle.globe.specs.declared.Direction.{Direction}
-use Rattle.globe.specs.declared.Direction.TheVariants as D
 use Rattle.globe.specs.declared.DirectionOut.{DirectionOut}
-use Rattle.globe.specs.declared.Length.TheVariants as L
 use Rattle.globe.specs.Angle.{short_cosine, short_around, short_sine_of}
 use Rattle.globe.specs.Leg.{ends_refusal, leg_length, leg_of}
 use Rattle.globe.specs.Course.{over, offset_cosine, eastward, northward, in_quarter, course_by, set_off, course_of}
@@ -33,9 +31,9 @@ abbrev towards : ℕ → DirectionOut
 towards n = record { refusal = 0; ticks = n }
 
 -- "A refusal gives zero in every value beside its number"
-pub direction_zero : (v : Direction) → ((direction_paper v).refusal ≡ 0 → ⊥) → (direction_paper v).ticks ≡ 0
-direction_zero (D.Ticks n) f = absurd (f refl)
-direction_zero (D.Refused r) f = refl
+pub direction_zero : (v : Result ℕ Refusal) → ((direction_paper v).refusal ≡ 0 → ⊥) → (direction_paper v).ticks ≡ 0
+direction_zero (Ok n) f = absurd (f refl)
+direction_zero (Err r) f = refl
 
 -- ---- N and D to a course
 
@@ -107,9 +105,9 @@ course_ends lat lon lat' lon' f =
     let o = offset_of lon' lon in
     go (ends_refusal lat lon lat' lon') (leg_length lat lon lat' lon') (set_off (eastward lat' o) (northward lat lat' o)) f
   where
-    go : (r m : ℕ) (v : Direction) → let n = (length_paper (answered r L.Refused (L.Millimetres m))).refusal in (n ≡ 0 → ⊥) → direction_paper (answered r D.Refused v) ≡ no_course n
-    go zero m v f = absurd (f refl)
-    go (suc r) m v f = refl
+    go : (c : Check) (m : ℕ) (v : Result ℕ Refusal) → let n = (length_paper (answered c m)).refusal in (n ≡ 0 → ⊥) → direction_paper (unrefused c v) ≡ no_course n
+    go (Ok x) m v f = absurd (f refl)
+    go (Err r) m v f = refl
 
 -- "18 when N and D are both zero", and only then
 pub course_18 : (lat lon lat' lon' : ℤ) → accepted lat lon ≡ true → accepted lat' lon' ≡ true → let offset = offset_of lon' lon in
@@ -255,7 +253,7 @@ set_off_below n d = go (eq_z n (pos 0) && eq_z d (pos 0)) (inside (lt_z n (pos 0
     inside true true h = omega arith
     inside true false h = omega arith
 
-    go : (t : Bool) {c : ℕ} → c < 3_600_000_000 → (direction_paper (if t then D.Refused COURSE else D.Ticks c)).ticks < 3_600_000_000
+    go : (t : Bool) {c : ℕ} → c < 3_600_000_000 → (direction_paper (if t then Err R.Course else Ok c)).ticks < 3_600_000_000
     go true h = omega arith
     go false h = h
 
@@ -265,9 +263,9 @@ course_below lat lon lat' lon' =
     let o = offset_of lon' lon in
     go (ends_refusal lat lon lat' lon') (set_off (eastward lat' o) (northward lat lat' o)) (set_off_below (eastward lat' o) (northward lat lat' o))
   where
-    go : (r : ℕ) (v : Direction) → (direction_paper v).ticks < 3_600_000_000 → (direction_paper (answered r D.Refused v)).ticks < 3_600_000_000
-    go zero v h = h
-    go (suc r) v h = omega arith
+    go : (c : Check) (v : Result ℕ Refusal) → (direction_paper v).ticks < 3_600_000_000 → (direction_paper (unrefused c v)).ticks < 3_600_000_000
+    go (Ok x) v h = h
+    go (Err r) v h = omega arith
 
 -- ---- due north, south, east and west
 

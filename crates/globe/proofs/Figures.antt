@@ -1,6 +1,6 @@
 -- Figures of the document, proved about the definitions. Those about the table alone stand in sines.
 -- Assumes nothing.
-use Rattle.std.specs.Prelude.{◌≡◌, refl, ℕ, ◌+◌, ◌*◌, ◌/◌, ◌≤◌, ◌<◌, pos, neg_ℤ}
+use Rattle.std.specs.Prelude.{◌≡◌, refl, ℕ, ◌+◌, ◌*◌, ◌/◌, ◌≤◌, ◌<◌, pos, neg_ℤ, Ok}
 use Rattle.std.proofs.Common.{ap, ◌∙◌, arith}
 use Rattle.roots.proofs.RootLaws.{root_is}
 use Rattle.sines.specs.Table.{sines, sines_from, rounded, sine_of_step, twice_cosine, entry}
@@ -10,12 +10,10 @@ use Rattle.sines.proofs.SineLaws.{long_sine_tick, long_sine_quarter, halves, lon
 use Rattle.sines.specs.BackLaws.{LastAngle}
 use Rattle.sines.specs.Back.{greatest_angle}
 use Rattle.sines.proofs.Figures.{long_30, long_half_tenth, long_half_45, greatest_1, greatest_54, greatest_tenth, greatest_45, greatest_90}
-use Rattle.globe.specs.declared.Place.TheVariants.{At}
-use Rattle.globe.specs.declared.Length.TheVariants.{Millimetres}
 use Rattle.ticks.specs.Ticks.{offset_of, folded, point_refusal}
 use Rattle.globe.specs.Angle.{short_cosine, long_sine_of, short_sine_of, long_sine_half_of}
 use Rattle.globe.proofs.AngleLaws.{cosine_pole}
-use Rattle.globe.specs.Sheet.{cylinder, sinusoid, cylindrical_of, sinusoidal_of, cylindrical_back_of, sinusoidal_back_of}
+use Rattle.globe.specs.Sheet.{cylinder, sinusoid, place, cylindrical_of, sinusoidal_of, cylindrical_back_of, sinusoidal_back_of}
 use Rattle.globe.proofs.SheetLaws.{place_is, there_and_back, cylinder_invertible, back_nobody, back_at, sine_is}
 use Rattle.globe.specs.Leg.{degree, degree_length, leg_cosine, length_of, leg_length, leg_of}
 use Rattle.globe.proofs.LegLaws.{same_point, north_exact}
@@ -80,7 +78,7 @@ cylindrical_back_17454 = ap point_paper (back_nobody cylinder (pos 0) (pos 17_45
 -- ---- the sinusoidal sheet
 
 -- the place itself, before the paper
-pub sinusoidal_60_10 : sinusoidal_of (pos 600_000_000) (pos 100_000_000) (pos 0) ≡ At (pos 50_000_000_000_000_000) (pos 600_000_000)
+pub sinusoidal_60_10 : sinusoidal_of (pos 600_000_000) (pos 100_000_000) (pos 0) ≡ Ok (place (pos 50_000_000_000_000_000) (pos 600_000_000))
 unfolding offset_of short_cosine
 sinusoidal_60_10 = place_is sinusoid (pos 600_000_000) (pos 100_000_000) (pos 0) refl refl ∙ rw long_30
 
@@ -108,11 +106,11 @@ sinusoidal_back_beside_pole =
 
 -- of a chord n, by the greatest angle of its root
 length_at : (n r : ℕ) {h u : ℕ} → h ≡ n → r * r ≤ n → n < (r + 1) * (r + 1) → greatest_angle r ≡ u
-    → length_paper (Millimetres (length_of h)) ≡ record { refusal = 0; millimetres = u * degree_length / degree }
+    → length_paper (Ok (length_of h)) ≡ record { refusal = 0; millimetres = u * degree_length / degree }
 length_at n r {h} e l k g = rw (← root_is {h = h} {r = r} (omega arith) (omega arith), g)
 
 -- of a chord that is a square
-length_by : (r : ℕ) {h u : ℕ} → h ≡ r * r → greatest_angle r ≡ u → length_paper (Millimetres (length_of h)) ≡ record { refusal = 0; millimetres = u * degree_length / degree }
+length_by : (r : ℕ) {h u : ℕ} → h ≡ r * r → greatest_angle r ≡ u → length_paper (Ok (length_of h)) ≡ record { refusal = 0; millimetres = u * degree_length / degree }
 length_by r e g = length_at (r * r) r e (omega arith) (omega arith) g
 
 -- "One tick north is then 11 mm, two are 22, and equal points 0."

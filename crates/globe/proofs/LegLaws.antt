@@ -2,6 +2,7 @@
 -- ways, exact along a meridian up to 110 degrees, so 0 from a point to itself, not 0 where the latitudes differ, and at most half a turn's.
 -- Assumes nothing.
 use Rattle.std.specs.Prelude.{◌≡◌, true, ℕ, zero, suc, ◌+◌, ◌-◌, ◌*◌, ◌/◌, ◌%◌, ◌≤◌, ◌<◌, min, ℤ, nat_abs, ◌-ℤ◌}
+use Rattle.refusals.specs.Choice.{fine}
 use Rattle.std.proofs.Common.{sym, ap, ◌∙◌, le_of_lt, mul_comm, mul-add, mul_left_comm, mul-le-mul, mod-lt, arith, leb-false, SFits, to_z, of_z, to_z-of_z}
 use Rattle.std.proofs.Math.Nat.{div-add-mod, mul-add-div, div-le_of_le-mul}
 use Rattle.std.specs.Int.{w32, w64}
@@ -13,9 +14,9 @@ use Rattle.sines.specs.Sine.{quarter, quarter_halves, leg_unit, leg_sine}
 use Rattle.sines.proofs.SineLaws.{long_sine_top, long_sine_half_zero, long_sine_half_1, leg_sine_top, leg_sine_some}
 use Rattle.sines.specs.Back.{greatest_angle}
 use Rattle.sines.proofs.BackLaws.{greatest_angle_meets, greatest_own}
-use Rattle.ticks.specs.Ticks.{full_turn, is_latitude, is_longitude, turned, offset_of}
+use Rattle.ticks.specs.Ticks.{full_turn, is_latitude, is_longitude, turned, offset_of, point_refusal}
 use Rattle.ticks.proofs.TickLaws.{turned_how, latitude, longitude, is_longitude_lem, offset_longitude}
-use Rattle.globe.specs.Leg.{half_north, half_east, leg_cosine, cosines, chord, degree, degree_length, length_of, leg_length}
+use Rattle.globe.specs.Leg.{half_north, half_east, leg_cosine, cosines, chord, degree, degree_length, length_of, leg_length, ends_refusal}
 
 -- ---- m × s / d by the parts of s, where m × s itself does not fit
 
@@ -34,6 +35,18 @@ module _ {m s d : ℕ} (positive : 0 < d) (few : m ≤ d) (square : s ≤ d * d)
 
   pub whole : m * s / d ≤ d * d
   whole = div-le_of_le-mul d (mul-le-mul few square)
+
+-- ---- what refuses an end
+
+module _ (lat lon : ℤ) (p : is_latitude lat ≡ true) (q : is_longitude lon ≡ true) where
+  -- where the start is accepted, the end is judged
+  pub end_judged : (lat' lon' : ℤ) → ends_refusal lat lon lat' lon' ≡ point_refusal lat' lon'
+  unfolding point_refusal
+  end_judged lat' lon' = rw (p, q)
+
+  pub ends_accepted : (lat' lon' : ℤ) → is_latitude lat' ≡ true → is_longitude lon' ≡ true → ends_refusal lat lon lat' lon' ≡ fine
+  unfolding point_refusal
+  ends_accepted lat' lon' r s = rw (p, q, r, s)
 
 -- ---- what bounds the parts of a leg
 

@@ -1,13 +1,13 @@
 -- How long a point buffer is at most, that its beginnings never fall in length, that one which is accepted is measured, and so is a beginning of it, and what a further point adds.
 -- Assumes nothing.
-use Rattle.std.specs.Prelude.{◌≡◌, refl, Bool, true, false, List, ◌++◌, ℕ, zero, suc, ◌+◌, ◌-◌, ◌*◌, ◌≤◌, ◌<◌, ℤ, pos, length, take, drop, get_or, if◌then◌else◌}
+use Rattle.std.specs.Prelude.{◌≡◌, refl, Bool, true, false, List, ◌++◌, ℕ, zero, suc, ◌+◌, ◌-◌, ◌*◌, ◌≤◌, ◌<◌, ℤ, pos, length, take, drop, get_or, if◌then◌else◌, Ok}
 use Rattle.std.proofs.Common.{sym, ap, ◌∙◌, add-zero, le_refl, take-append-drop, length-append, get_or-append-add}
 use native.Mathlib.Omega.{arith}
 use Rattle.std.proofs.Math.ListN.{get_or-append}
 use Rattle.signed.specs.Tests.{eq_z}
 use Rattle.points.specs.Points.{numbers, point_numbers, part_at, latitude_at, longitude_at, third_at, count, buffer_refusal}
 use Rattle.points.proofs.PointLaws.{accepted, count_first, first_accepted}
-use Rattle.globe.specs.declared.Length.TheVariants.{Millimetres}
+use Rattle.refusals.specs.Choice.{fine}
 use Rattle.globe.specs.Leg.{leg_length}
 use Rattle.globe.proofs.LegLaws.{longest_leg, longest}
 use Rattle.globe.specs.Measure.{leg_into, length_up_to, measure_of}
@@ -34,7 +34,7 @@ length_grows b k n h = let e : k + (n - k) ≡ n = omega arith in rw e at (go (n
     go zero = rw add-zero (le_refl _)
     go (suc d) = let e : k + suc d ≡ suc (k + d) = omega arith in rw e (omega (arith, go d))
 
-pub accepted_measured : (b : List ℤ) → buffer_refusal b ≡ 0 → measure_of b ≡ Millimetres (length_up_to b (count b))
+pub accepted_measured : (b : List ℤ) → buffer_refusal b ≡ fine → measure_of b ≡ Ok (length_up_to b (count b))
 unfolding measure_of
 accepted_measured b e = rw e
 
@@ -55,13 +55,13 @@ length_before b e zero h = refl
 length_before b e (suc n) h = rw (length_before b e n (omega arith), leg_before b e n (omega arith))
 
 -- the first points, measured as a buffer
-pub first_measured : (b : List ℤ) (h : buffer_refusal b ≡ 0) (k : ℕ) → k ≤ count b → measure_of (take (numbers * k) b) ≡ Millimetres (length_up_to b k)
+pub first_measured : (b : List ℤ) (h : buffer_refusal b ≡ fine) (k : ℕ) → k ≤ count b → measure_of (take (numbers * k) b) ≡ Ok (length_up_to b k)
 first_measured b h k l =
     let c = count_first b h k l in
     accepted_measured (take (numbers * k) b) (first_accepted b h k l) ∙
-    rw c (ap Millimetres (sym (length_before (take (numbers * k) b) (drop (numbers * k) b) k (omega arith)) ∙ rw (take-append-drop (numbers * k) b)))
+    rw c (ap (λ (n : ℕ). Ok n) (sym (length_before (take (numbers * k) b) (drop (numbers * k) b) k (omega arith)) ∙ rw (take-append-drop (numbers * k) b)))
 
-module _ (b : List ℤ) (lat lon third : ℤ) (h : buffer_refusal b ≡ 0) where
+module _ (b : List ℤ) (lat lon third : ℤ) (h : buffer_refusal b ≡ fine) where
   pub count_next : count (b ++ point_numbers lat lon third) ≡ suc (count b)
   count_next = omega (arith, length-append b (point_numbers lat lon third), (accepted b h).whole)
 
@@ -76,7 +76,7 @@ module _ (b : List ℤ) (lat lon third : ℤ) (h : buffer_refusal b ≡ 0) where
   length_next = rw count_next (ap (λ (n : ℕ). n + leg_into (b ++ point_numbers lat lon third) (count b)) (length_before b (point_numbers lat lon third) (count b) (omega arith)))
 
 -- the leg into the second of two further points
-module _ (b : List ℤ) (lat lon third lat' lon' : ℤ) (h : buffer_refusal b ≡ 0) (k : buffer_refusal (b ++ point_numbers lat lon third) ≡ 0) where
+module _ (b : List ℤ) (lat lon third lat' lon' : ℤ) (h : buffer_refusal b ≡ fine) (k : buffer_refusal (b ++ point_numbers lat lon third) ≡ fine) where
   abbrev c : List ℤ
   c = b ++ point_numbers lat lon third
 

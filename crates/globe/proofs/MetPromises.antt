@@ -1,18 +1,18 @@
 -- What is promised of the question whether a target is met, in the paper's own numbers, and the document's words at work on three points.
 -- Assumes nothing.
-use Rattle.std.specs.Prelude.{◌≡◌, List, [], ◌∷◌, leb, ℤ, pos, take}
+use Rattle.std.specs.Prelude.{◌≡◌, List, [], ◌∷◌, leb, ℤ, pos, take, Result, Ok, Err}
 use Rattle.std.proofs.Math.Path.{refl}
 use Rattle.std.proofs.Common.{ap, ⊎_elim, eq-or-lt_of_le, arith}
-use Prim.Native.Nat.{ℕ, zero, suc, ◌*◌, ◌≤◌, ◌<◌}
+use Prim.Native.Nat.{ℕ, ◌*◌, ◌≤◌, ◌<◌}
 use borrow.Author.Tests.{leb-true, leb-false, le-leb, lt-leb}
-use Rattle.refusals.specs.Refusal.{TARGET}
-use Rattle.refusals.specs.Choice.{unless, first_of, answered}
+use Rattle.refusals.specs.declared.Refusal.{Refusal}
+use Rattle.refusals.specs.declared.Refusal.TheVariants as R
+use Rattle.refusals.specs.Choice.{unless, Check, fine, sent, first_of, answered}
 use Rattle.refusals.specs.Tests.{by_test}
 use Rattle.sines.specs.Least.{least, IsLeast}
 use Rattle.sines.proofs.LeastLaws.{at_zero, least_meets, least_is}
 use Rattle.points.specs.Points.{count, buffer_refusal, thirds_fit, points_refusal}
 use Rattle.ticks.specs.Ticks.{point_refusal}
-use Rattle.globe.specs.declared.Length.{Length}
 use Rattle.globe.specs.declared.Met.{Met}
 use Rattle.globe.specs.declared.Met.TheVariants as M
 use Rattle.globe.specs.declared.MetOut.{MetOut}
@@ -23,10 +23,10 @@ use Rattle.globe.specs.Met.{most_target, reaches, looked_at, walked, met_of}
 use Rattle.globe.specs.Paper.{length_paper, met_paper}
 
 -- "A refusal gives zero in every value beside its number"
-pub met_zero : (v : Met) → ((met_paper v).refusal ≡ 0 → ⊥) → ((met_paper v).met ≡ 0) × ((met_paper v).points ≡ 0)
-met_zero (M.Yes k) n = absurd (n refl)
-met_zero (M.No k) n = absurd (n refl)
-met_zero (M.Refused r) n = (refl, refl)
+pub met_zero : (v : Result Met Refusal) → ((met_paper v).refusal ≡ 0 → ⊥) → ((met_paper v).met ≡ 0) × ((met_paper v).points ≡ 0)
+met_zero (Ok (M.Yes k)) n = absurd (n refl)
+met_zero (Ok (M.No k)) n = absurd (n refl)
+met_zero (Err r) n = (refl, refl)
 
 module _ (b : List ℤ) where
   -- what `measure` answers for the whole buffer, and for its first k points
@@ -37,16 +37,16 @@ module _ (b : List ℤ) where
   beginning k = (length_paper (measure_of (take (3 * k) b))).millimetres
 
   -- "R-1's for the buffer, all found before any leg is measured": whatever the target
-  pub met_refused : (target : ℕ) → (buffer_refusal b ≡ 0 → ⊥) → (met_paper (met_of b target)).refusal ≡ buffer_refusal b
+  pub met_refused : (target : ℕ) → (buffer_refusal b ≡ fine → ⊥) → (met_paper (met_of b target)).refusal ≡ sent (buffer_refusal b)
   unfolding met_of
-  met_refused target = go (buffer_refusal b) (unless (leb target most_target) TARGET 0)
+  met_refused target = go (buffer_refusal b) (unless (leb target most_target) (Err R.Target) fine)
     where
-      go : (r r' : ℕ) → (r ≡ 0 → ⊥) → (met_paper (answered (first_of r r') M.Refused (walked b target))).refusal ≡ r
-      go zero r' n = absurd (n refl)
-      go (suc r) r' n = refl
+      go : (c d : Check) → (c ≡ fine → ⊥) → (met_paper (answered (first_of c d) (walked b target))).refusal ≡ sent c
+      go (Ok tt) d n = absurd (n refl)
+      go (Err r) d n = refl
 
-  module _ (h : buffer_refusal b ≡ 0) where
-    answer_is : (target : ℕ) → target ≤ 999_999_000 → met_of b target ≡ walked b target
+  module _ (h : buffer_refusal b ≡ fine) where
+    answer_is : (target : ℕ) → target ≤ 999_999_000 → met_of b target ≡ Ok (walked b target)
     unfolding met_of
     answer_is target l = rw (h, le-leb target most_target (omega arith))
 
@@ -56,10 +56,10 @@ module _ (b : List ℤ) where
     met_16 target = (λ l. rw (h, lt-leb target most_target l), λ l. rw (answer_is target l) (by_test (reaches b target (count b)) (λ e. rw e) (λ e. rw e)))
 
     beginning_is : (k : ℕ) → k ≤ count b → beginning k ≡ length_up_to b k
-    beginning_is k l = ap (λ (l : Length). (length_paper l).millimetres) (first_measured b h k l)
+    beginning_is k l = ap (λ (l : Result ℕ Refusal). (length_paper l).millimetres) (first_measured b h k l)
 
     whole_is : whole ≡ length_up_to b (count b)
-    whole_is = ap (λ (l : Length). (length_paper l).millimetres) (accepted_measured b h)
+    whole_is = ap (λ (l : Result ℕ Refusal). (length_paper l).millimetres) (accepted_measured b h)
 
     -- the length of a beginning never falls as it grows
     pub never_falls : (k n : ℕ) → k ≤ n → n ≤ count b → beginning k ≤ beginning n

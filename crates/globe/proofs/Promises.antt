@@ -1,16 +1,18 @@
 -- What is promised of sines, places and lengths, in the paper's own numbers. Demand 3 stands in SheetLaws.
 -- Assumes nothing.
-use Rattle.std.specs.Prelude.{◌≡◌, true, false, List, [], ◌++◌, ℤ, pos, negsuc, neg_ℤ, nat_abs, ◌-ℤ◌, ◌*ℤ◌}
+use Rattle.std.specs.Prelude.{◌≡◌, true, false, List, [], ◌++◌, ℤ, pos, negsuc, neg_ℤ, nat_abs, ◌-ℤ◌, ◌*ℤ◌, Result, Ok, Err}
 use Rattle.std.proofs.Math.Path.{refl}
 use Rattle.std.proofs.Common.{sym, ap, ◌∙◌, div-mul-le_self, le-leb, lt-ltb, leb-true, leb-false}
-use Prim.Native.Nat.{ℕ, zero, suc, ◌+◌, ◌-◌, ◌*◌, ◌/◌, ◌≤◌, ◌<◌, min}
+use Prim.Native.Nat.{ℕ, ◌+◌, ◌-◌, ◌*◌, ◌/◌, ◌≤◌, ◌<◌, min}
 use Rattle.std.proofs.Math.Nat.{zero-div, lt-div-mul-add}
 use native.Mathlib.Omega.{arith}
 use Rattle.std.proofs.lemmas.Bool.{lt-leb}
 use Rattle.std.proofs.Math.IntN.{neg_ℤ-neg_ℤ}
 use Rattle.std.specs.Int.Signed.{lt_z, le_z, quot_z}
-use Rattle.refusals.specs.Refusal.{LATITUDE, LONGITUDE}
-use Rattle.refusals.specs.Choice.{first_of, answered}
+use Rattle.refusals.specs.declared.Refusal.{Refusal}
+use Rattle.refusals.specs.declared.Refusal.TheVariants as R
+use Rattle.refusals.specs.Refusal.{number}
+use Rattle.refusals.specs.Choice.{Check, fine, sent, first_of, answered}
 use Rattle.refusals.specs.Tests.{and_true, true_and, by_test, clash}
 use Rattle.signed.specs.Sides.{quot_neg}
 use Rattle.signed.specs.Sign.{sign_as}
@@ -27,15 +29,9 @@ use Rattle.ticks.specs.Ticks.{is_latitude, is_longitude, is_angle, folded, accep
 use Rattle.ticks.proofs.TickLaws.{size_latitude, size_angle, latitude_angle, is_longitude_lem, offset_longitude, folded_latitude, folded_self, folded_supplement, angle_mirror, folded_mirror}
 use Rattle.points.specs.Points.{point_numbers, count, thirds_fit, points_refusal, buffer_refusal}
 use Rattle.points.proofs.PointLaws as B
-use Rattle.globe.specs.declared.Sine.{Sine}
-use Rattle.globe.specs.declared.Sine.TheVariants as S
 use Rattle.globe.specs.declared.SineOut.{SineOut}
 use Rattle.globe.specs.declared.Place.{Place}
-use Rattle.globe.specs.declared.Place.TheVariants as P
 use Rattle.globe.specs.declared.Point.{Point}
-use Rattle.globe.specs.declared.Point.TheVariants as Q
-use Rattle.globe.specs.declared.Length.{Length}
-use Rattle.globe.specs.declared.Length.TheVariants as L
 use Rattle.globe.specs.declared.LengthOut.{LengthOut}
 use Rattle.globe.specs.Angle.{signed_long_sine, short_cosine, long_around, short_around, long_sine_of, short_sine_of, is_halves, long_sine_half_of}
 use Rattle.globe.proofs.AngleLaws as A
@@ -50,36 +46,36 @@ use Rattle.globe.specs.Paper.{sine_paper, place_paper, point_paper, length_paper
 
 -- ---- "A refusal gives zero in every value beside its number"
 
-pub sine_zero : (v : Sine) → ((sine_paper v).refusal ≡ 0 → ⊥) → (sine_paper v).value ≡ pos 0
-sine_zero (S.Value z) n = absurd (n refl)
-sine_zero (S.Refused r) n = refl
+pub sine_zero : (v : Result ℤ Refusal) → ((sine_paper v).refusal ≡ 0 → ⊥) → (sine_paper v).value ≡ pos 0
+sine_zero (Ok z) n = absurd (n refl)
+sine_zero (Err r) n = refl
 
-pub place_zero : (v : Place) → ((place_paper v).refusal ≡ 0 → ⊥) → ((place_paper v).x ≡ pos 0) × ((place_paper v).y ≡ pos 0)
-place_zero (P.At x y) n = absurd (n refl)
-place_zero (P.Refused r) n = (refl, refl)
+pub place_zero : (v : Result Place Refusal) → ((place_paper v).refusal ≡ 0 → ⊥) → ((place_paper v).x ≡ pos 0) × ((place_paper v).y ≡ pos 0)
+place_zero (Ok p) n = absurd (n refl)
+place_zero (Err r) n = (refl, refl)
 
-pub point_zero : (v : Point) → ((point_paper v).refusal ≡ 0 → ⊥) → ((point_paper v).latitude ≡ pos 0) × ((point_paper v).longitude ≡ pos 0)
-point_zero (Q.At lat lon) n = absurd (n refl)
-point_zero (Q.Refused r) n = (refl, refl)
+pub point_zero : (v : Result Point Refusal) → ((point_paper v).refusal ≡ 0 → ⊥) → ((point_paper v).latitude ≡ pos 0) × ((point_paper v).longitude ≡ pos 0)
+point_zero (Ok p) n = absurd (n refl)
+point_zero (Err r) n = (refl, refl)
 
-pub length_zero : (v : Length) → ((length_paper v).refusal ≡ 0 → ⊥) → (length_paper v).millimetres ≡ 0
-length_zero (L.Millimetres l) n = absurd (n refl)
-length_zero (L.Refused r) n = refl
+pub length_zero : (v : Result ℕ Refusal) → ((length_paper v).refusal ≡ 0 → ⊥) → (length_paper v).millimetres ≡ 0
+length_zero (Ok l) n = absurd (n refl)
+length_zero (Err r) n = refl
 
 -- ---- sines
 
-abbrev no_sine : ℕ → SineOut
-no_sine n = record { refusal = n; value = pos 0 }
+abbrev no_sine : Refusal → SineOut
+no_sine r = record { refusal = number r; value = pos 0 }
 
 abbrev a_sine : ℤ → SineOut
 a_sine v = record { refusal = 0; value = v }
 
 -- "6 for a sine only beyond 180 degrees"
-pub long_refused : (a : ℤ) → is_angle a ≡ false → sine_paper (long_sine_of a) ≡ no_sine LATITUDE
+pub long_refused : (a : ℤ) → is_angle a ≡ false → sine_paper (long_sine_of a) ≡ no_sine R.Latitude
 unfolding long_sine_of
 long_refused a h = rw h
 
-pub short_refused : (a : ℤ) → is_angle a ≡ false → sine_paper (short_sine_of a) ≡ no_sine LATITUDE
+pub short_refused : (a : ℤ) → is_angle a ≡ false → sine_paper (short_sine_of a) ≡ no_sine R.Latitude
 unfolding short_sine_of
 short_refused a h = rw h
 
@@ -189,7 +185,7 @@ short_drops a = of_long a ∙ by_size (sine_paper (long_sine_of a)).value
 -- ---- long sines in half ticks
 
 -- "from 0 to 90 degrees in half ticks (6 outside)"
-pub half_refused : (a : ℤ) → is_halves a ≡ false → sine_paper (long_sine_half_of a) ≡ no_sine LATITUDE
+pub half_refused : (a : ℤ) → is_halves a ≡ false → sine_paper (long_sine_half_of a) ≡ no_sine R.Latitude
 unfolding long_sine_half_of
 half_refused a h = rw h
 
@@ -200,10 +196,10 @@ half_is a h = rw (le-leb 0 a (omega arith), le-leb a 1_800_000_000 h)
 pub half_accepted : (a : ℕ) → a ≤ 1_800_000_000 → (sine_paper (long_sine_half_of (pos a))).refusal ≡ 0
 half_accepted a h = rw (half_is a h)
 
-pub half_below_0 : (n : ℕ) → sine_paper (long_sine_half_of (negsuc n)) ≡ no_sine LATITUDE
+pub half_below_0 : (n : ℕ) → sine_paper (long_sine_half_of (negsuc n)) ≡ no_sine R.Latitude
 half_below_0 n = half_refused (negsuc n) refl
 
-pub half_past_90 : (a : ℕ) → 1_800_000_000 < a → sine_paper (long_sine_half_of (pos a)) ≡ no_sine LATITUDE
+pub half_past_90 : (a : ℕ) → 1_800_000_000 < a → sine_paper (long_sine_half_of (pos a)) ≡ no_sine R.Latitude
 half_past_90 a h = half_refused (pos a) (rw (le-leb 0 a (omega arith)) (lt-leb a 1_800_000_000 h))
 
 -- two half ticks are a tick
@@ -254,39 +250,39 @@ pub sinusoidal_place : (lat lon meridian : ℤ) → is_longitude meridian ≡ tr
 sinusoidal_place lat lon meridian m h = rw (place_is sinusoid lat lon meridian m h, cosine_is lat)
 
 -- "Sheets: 14, 6, 7.": 14 is Demand3's
-pub sheet_6 : (s : Sheet) (lat lon meridian : ℤ) → is_longitude meridian ≡ true → is_latitude lat ≡ false → place_paper (place_of s lat lon meridian) ≡ no_place LATITUDE
+pub sheet_6 : (s : Sheet) (lat lon meridian : ℤ) → is_longitude meridian ≡ true → is_latitude lat ≡ false → place_paper (place_of s lat lon meridian) ≡ no_place R.Latitude
 unfolding place_of sheet_refusal point_refusal
 sheet_6 s lat lon meridian m h = rw (m, h)
 
 pub sheet_7 : (s : Sheet) (lat lon meridian : ℤ) → is_longitude meridian ≡ true → is_latitude lat ≡ true → is_longitude lon ≡ false
-    → place_paper (place_of s lat lon meridian) ≡ no_place LONGITUDE
+    → place_paper (place_of s lat lon meridian) ≡ no_place R.Longitude
 unfolding place_of sheet_refusal point_refusal
 sheet_7 s lat lon meridian m h k = rw (m, h, k)
 
 -- ---- a leg
 
-abbrev no_length : ℕ → LengthOut
-no_length n = record { refusal = n; millimetres = 0 }
+abbrev no_length : Refusal → LengthOut
+no_length r = record { refusal = number r; millimetres = 0 }
 
 -- "Length: 6 and 7 of the first point, then of the second."
 module _ (lat lon lat' lon' : ℤ) where
   abbrev leg : LengthOut
   leg = length_paper (leg_of lat lon lat' lon')
 
-  pub leg_6 : is_latitude lat ≡ false → leg ≡ no_length LATITUDE
+  pub leg_6 : is_latitude lat ≡ false → leg ≡ no_length R.Latitude
   unfolding leg_of point_refusal
   leg_6 h = rw h
 
-  pub leg_7 : is_latitude lat ≡ true → is_longitude lon ≡ false → leg ≡ no_length LONGITUDE
+  pub leg_7 : is_latitude lat ≡ true → is_longitude lon ≡ false → leg ≡ no_length R.Longitude
   unfolding leg_of point_refusal
   leg_7 h k = rw (h, k)
 
   module _ (first : accepted lat lon ≡ true) where
-    pub leg_second_6 : is_latitude lat' ≡ false → leg ≡ no_length LATITUDE
+    pub leg_second_6 : is_latitude lat' ≡ false → leg ≡ no_length R.Latitude
     unfolding leg_of point_refusal
     leg_second_6 h = let p = and_true (is_latitude lat) (is_longitude lon) first in rw (p.0, p.1, h)
 
-    pub leg_second_7 : is_latitude lat' ≡ true → is_longitude lon' ≡ false → leg ≡ no_length LONGITUDE
+    pub leg_second_7 : is_latitude lat' ≡ true → is_longitude lon' ≡ false → leg ≡ no_length R.Longitude
     unfolding leg_of point_refusal
     leg_second_7 h k = let p = and_true (is_latitude lat) (is_longitude lon) first in rw (p.0, p.1, h, k)
 
@@ -305,9 +301,9 @@ module _ (lat lon lat' lon' : ℤ) where
   unfolding leg_of
   longest_leg_lem = go (first_of (point_refusal lat lon) (point_refusal lat' lon')) (G.longest lat lon lat' lon')
     where
-      go : (n : ℕ) {l : ℕ} → l ≤ 20_015_086_860 → (length_paper (answered n L.Refused (L.Millimetres l))).millimetres ≤ 20_015_086_860
-      go zero h = h
-      go (suc n) h = omega arith
+      go : (c : Check) {l : ℕ} → l ≤ 20_015_086_860 → (length_paper (answered c l)).millimetres ≤ 20_015_086_860
+      go (Ok x) h = h
+      go (Err r) h = omega arith
 
 -- "Both directions of a leg have one length."
 pub both_ways : (lat lon lat' lon' : ℤ) → accepted lat lon ≡ true → accepted lat' lon' ≡ true → length_paper (leg_of lat lon lat' lon') ≡ length_paper (leg_of lat' lon' lat lon)
@@ -438,21 +434,21 @@ from_any_meridian lat lon lat' lon' meridian a b m =
 
 module _ (b : List ℤ) where
   -- its refusals are the buffer's own
-  pub measure_refusal : (length_paper (measure_of b)).refusal ≡ buffer_refusal b
+  pub measure_refusal : (length_paper (measure_of b)).refusal ≡ sent (buffer_refusal b)
   unfolding measure_of
   measure_refusal = go (buffer_refusal b) (length_up_to b (count b))
     where
-      go : (n l : ℕ) → (length_paper (answered n L.Refused (L.Millimetres l))).refusal ≡ n
-      go zero l = refl
-      go (suc n) l = refl
+      go : (c : Check) (l : ℕ) → (length_paper (answered c l)).refusal ≡ sent c
+      go (Ok x) l = refl
+      go (Err r) l = refl
 
   pub longest_route : (length_paper (measure_of b)).millimetres ≤ count b * 20_015_086_860
   unfolding measure_of
   longest_route = go (buffer_refusal b) (count b) (length_longest b (count b))
     where
-      go : (n k : ℕ) {l : ℕ} → l ≤ k * 20_015_086_860 → (length_paper (answered n L.Refused (L.Millimetres l))).millimetres ≤ k * 20_015_086_860
-      go zero k h = h
-      go (suc n) k h = omega arith
+      go : (c : Check) (k : ℕ) {l : ℕ} → l ≤ k * 20_015_086_860 → (length_paper (answered c l)).millimetres ≤ k * 20_015_086_860
+      go (Ok x) k h = h
+      go (Err r) k h = omega arith
 
 -- no points have length 0
 pub measure_none : length_paper (measure_of []) ≡ record { refusal = 0; millimetres = 0 }
@@ -461,20 +457,20 @@ measure_none = refl
 
 -- "the leg into the next point not counted" where the pen was up
 pub measure_raised : (b : List ℤ) (lat lon : ℤ) → let c = b ++ point_numbers lat lon (pos 1) in
-    buffer_refusal b ≡ 0 → buffer_refusal c ≡ 0 → length_paper (measure_of c) ≡ length_paper (measure_of b)
+    buffer_refusal b ≡ fine → buffer_refusal c ≡ fine → length_paper (measure_of c) ≡ length_paper (measure_of b)
 unfolding leg_into
 measure_raised b lat lon h k =
     rw (accepted_measured b h, accepted_measured (b ++ point_numbers lat lon (pos 1)) k, length_next b lat lon (pos 1) h, part_next b lat lon (pos 1) h 2)
     (ap (λ (n : ℕ). record { refusal = 0; millimetres = n }) (omega arith))
 
-point_in : (b : List ℤ) (lat lon third : ℤ) → buffer_refusal b ≡ 0 → buffer_refusal (b ++ point_numbers lat lon third) ≡ 0 → accepted lat lon ≡ true
+point_in : (b : List ℤ) (lat lon third : ℤ) → buffer_refusal b ≡ fine → buffer_refusal (b ++ point_numbers lat lon third) ≡ fine → accepted lat lon ≡ true
 point_in b lat lon third h k =
     let p = B.point_of_lem (b ++ point_numbers lat lon third) k (count b) (omega (arith, count_next b lat lon third h)) in
     true_and (rw (part_next b lat lon third h 0) at p.latitude) (rw (part_next b lat lon third h 1) at p.longitude)
 
 -- and counted where it was down
 pub measure_drawn : (b : List ℤ) (lat lon third lat' lon' : ℤ) → let c = b ++ point_numbers lat lon third in let d = c ++ point_numbers lat' lon' (pos 0) in
-    buffer_refusal b ≡ 0 → buffer_refusal c ≡ 0 → buffer_refusal d ≡ 0
+    buffer_refusal b ≡ fine → buffer_refusal c ≡ fine → buffer_refusal d ≡ fine
     → (length_paper (measure_of d)).millimetres ≡ (length_paper (measure_of c)).millimetres + (length_paper (leg_of lat lon lat' lon')).millimetres
 measure_drawn b lat lon third lat' lon' h k l =
     let c = b ++ point_numbers lat lon third in

@@ -1,7 +1,7 @@
 -- Demand 3 proved once for every sheet whose latitudes come back from their heights, and so for both sheets; that two ways back which
 -- meet it agree; and the way back as it is worked out.
 -- Assumes nothing.
-use Rattle.std.specs.Prelude.{◌≡◌, ◌↔◌, ◌⊎◌, Bool, ℕ, zero, suc, ◌≤◌, ◌<◌, leb, ℤ, pos, negsuc, neg_ℤ, nat_abs, ◌+ℤ◌, ◌*ℤ◌, if◌then◌else◌}
+use Rattle.std.specs.Prelude.{◌≡◌, ◌↔◌, ◌⊎◌, Bool, ℕ, zero, suc, ◌≤◌, ◌<◌, leb, ℤ, pos, negsuc, neg_ℤ, nat_abs, ◌+ℤ◌, ◌*ℤ◌, if◌then◌else◌, Result, Ok, Err}
 use Rattle.std.proofs.Math.Path.{refl, sym, ap}
 use Rattle.std.proofs.Common.{subst, ◌∙◌, inl, inr, ⊎_elim, le_refl, arith}
 use Rattle.std.proofs.Math.Bool.{true, false}
@@ -20,19 +20,19 @@ use Rattle.sines.proofs.GreatestLaws.{greatest_is}
 use Rattle.sines.specs.BackLaws.{LastAngle}
 use Rattle.sines.proofs.BackLaws.{later}
 use Rattle.globe.specs.declared.Place.{Place}
-use Rattle.globe.specs.declared.Place.TheVariants as P
 use Rattle.globe.specs.declared.PlaceOut.{PlaceOut}
 use Rattle.globe.specs.declared.Point.{Point}
-use Rattle.globe.specs.declared.Point.TheVariants as Q
 use Rattle.globe.specs.declared.PointOut.{PointOut}
-use Rattle.refusals.specs.Refusal.{PLACE, MERIDIAN}
-use Rattle.refusals.specs.Choice.{unless, answered}
-use Rattle.refusals.specs.Tests.{and_true, true_and, and_yes, by_test, clash}
+use Rattle.refusals.specs.declared.Refusal.{Refusal}
+use Rattle.refusals.specs.declared.Refusal.TheVariants as R
+use Rattle.refusals.specs.Refusal.{number}
+use Rattle.refusals.specs.Choice.{unless, Check, sent, answered}
+use Rattle.refusals.specs.Tests.{and_true, true_and, and_yes, by_test, clash, sent_none}
 use Rattle.ticks.specs.Ticks.{is_latitude, is_longitude, accepted, turned, offset_of, point_refusal, sheet_refusal}
 use Rattle.ticks.proofs.TickLaws.{latitude_size, is_longitude_lem, offset_longitude, sum_longitude, turn_back, back_turn, no_offset, sheet_accepted}
 use Rattle.globe.specs.Angle.{signed_long_sine}
 use Rattle.globe.proofs.AngleLaws.{cosine_off, cosine_pole}
-use Rattle.globe.specs.Sheet.{Sheet, cylinder, sinusoid, place_of, cylindrical_of, sinusoidal_of, is_at, back_of, cylindrical_back_of, sinusoidal_back_of}
+use Rattle.globe.specs.Sheet.{Sheet, cylinder, sinusoid, place, place_of, cylindrical_of, sinusoidal_of, is_at, point, back_of, cylindrical_back_of, sinusoidal_back_of}
 use Rattle.globe.specs.Paper.{place_paper, point_paper}
 use Rattle.globe.specs.Demand.{there, no_place, no_point, Demand3}
 use Rattle.globe.specs.SheetLaws.{Invertible, angle_up_to, at_pole, is_exact, off_pole, point_at, if_there}
@@ -42,27 +42,27 @@ times_one z = same (z *ℤ pos 1) z (omega (arith, mul_above z 1, mul_below z 1)
 
 -- ---- what a place tells
 
-at_is : (x y : ℤ) (p : Place) → is_at x y p ≡ true → p ≡ P.At x y
-at_is x y (P.At a b) t =
-    let p = and_true (eq_z a x) (eq_z b y) t in
-    rw (eq_z_true a x p.0, eq_z_true b y p.1)
-at_is x y (P.Refused n) t = clash t refl
+at_is : (x y : ℤ) (a : Result Place Refusal) → is_at x y a ≡ true → a ≡ Ok (place x y)
+at_is x y (Ok p) t =
+    let h = and_true (eq_z p.x x) (eq_z p.y y) t in
+    rw (← eq_z_true p.x x h.0, ← eq_z_true p.y y h.1)
+at_is x y (Err r) t = clash t refl
 
-is_at_lem : (x y : ℤ) → is_at x y (P.At x y) ≡ true
+is_at_lem : (x y : ℤ) → is_at x y (Ok (place x y)) ≡ true
 is_at_lem x y = true_and (eq_eq_z x x refl) (eq_eq_z y y refl)
 
-paper_refusal : (n : ℕ) (x y : ℤ) → (place_paper (answered n P.Refused (P.At x y))).refusal ≡ n
-paper_refusal zero x y = refl
-paper_refusal (suc n) x y = refl
+paper_refusal : (c : Check) (x y : ℤ) → (place_paper (answered c (place x y))).refusal ≡ sent c
+paper_refusal (Ok tt) x y = refl
+paper_refusal (Err r) x y = refl
 
-same_lat : {a b c d : ℤ} → Q.At a b ≡ Q.At c d → a ≡ c
-same_lat e = cc
+same_lat : {a b c d : ℤ} → ◌≡◌ {A = Result Point Refusal} (Ok (point a b)) (Ok (point c d)) → a ≡ c
+same_lat {a} {b} {c} {d} e = let p : point a b ≡ point c d = cc in ap (λ (q : Point). q.latitude) p
 
-same_lon : {a b c d : ℤ} → Q.At a b ≡ Q.At c d → b ≡ d
-same_lon e = cc
+same_lon : {a b c d : ℤ} → ◌≡◌ {A = Result Point Refusal} (Ok (point a b)) (Ok (point c d)) → b ≡ d
+same_lon {a} {b} {c} {d} e = let p : point a b ≡ point c d = cc in ap (λ (q : Point). q.longitude) p
 
-refused_point : {A : Type 0} {p : PointOut} → p ≡ no_point PLACE → p.refusal ≡ 0 → A
-refused_point e z = let n : ◌≡◌ {A = ℕ} PLACE 0 = sym (ap (λ (p : PointOut). p.refusal) e) ∙ z in absurd (omega arith)
+refused_point : {A : Type 0} {p : PointOut} → p ≡ no_point R.Place → p.refusal ≡ 0 → A
+refused_point e z = let n : ◌≡◌ {A = ℕ} (number R.Place) 0 = sym (ap (λ (p : PointOut). p.refusal) e) ∙ z in absurd (omega arith)
 
 same_out : (p q : PointOut) → p.refusal ≡ q.refusal → p.latitude ≡ q.latitude → p.longitude ≡ q.longitude → p ≡ q
 same_out p q r a o =
@@ -89,12 +89,12 @@ module _ (s : Sheet) where
   -- ---- places
 
   module _ (lat lon meridian : ℤ) where
-    pub place_refusal : (place_paper (place_of s lat lon meridian)).refusal ≡ sheet_refusal lat lon meridian
+    pub place_refusal : (place_paper (place_of s lat lon meridian)).refusal ≡ sent (sheet_refusal lat lon meridian)
     unfolding place_of
     place_refusal = paper_refusal (sheet_refusal lat lon meridian) _ _
 
     module _ (m : is_longitude meridian ≡ true) where
-      pub place_is : accepted lat lon ≡ true → place_of s lat lon meridian ≡ P.At (offset_of lon meridian *ℤ pos (s.width lat)) (s.height lat)
+      pub place_is : accepted lat lon ≡ true → place_of s lat lon meridian ≡ Ok (place (offset_of lon meridian *ℤ pos (s.width lat)) (s.height lat))
       unfolding place_of sheet_refusal point_refusal
       place_is h = let p = and_true (is_latitude lat) (is_longitude lon) h in rw (m, p.0, p.1)
 
@@ -105,22 +105,22 @@ module _ (s : Sheet) where
 
   pub paper_tells : (lat lon meridian : ℤ) {x y : ℤ} → place_paper (place_of s lat lon meridian) ≡ there x y → Told lat lon meridian x y
   paper_tells lat lon meridian {x} {y} e =
-      let a = sheet_accepted lat lon meridian (sym (place_refusal lat lon meridian) ∙ ap (λ (p : PlaceOut). p.refusal) e) in
+      let a = sheet_accepted lat lon meridian (sent_none _ (sym (place_refusal lat lon meridian) ∙ ap (λ (p : PlaceOut). p.refusal) e)) in
       let h = true_and a.1 a.2 in
       let f = sym (ap place_paper (place_is lat lon meridian a.0 h)) ∙ e in
       (a.0, h, sym (ap (λ (p : PlaceOut). p.x) f), sym (ap (λ (p : PlaceOut). p.y) f))
 
-  pub place_tells : (lat lon meridian : ℤ) {x y : ℤ} → place_of s lat lon meridian ≡ P.At x y → Told lat lon meridian x y
+  pub place_tells : (lat lon meridian : ℤ) {x y : ℤ} → place_of s lat lon meridian ≡ Ok (place x y) → Told lat lon meridian x y
   place_tells lat lon meridian e = paper_tells lat lon meridian (ap place_paper e)
 
-  pub of_paper : (lat lon meridian : ℤ) {x y : ℤ} → place_paper (place_of s lat lon meridian) ≡ there x y → place_of s lat lon meridian ≡ P.At x y
+  pub of_paper : (lat lon meridian : ℤ) {x y : ℤ} → place_paper (place_of s lat lon meridian) ≡ there x y → place_of s lat lon meridian ≡ Ok (place x y)
   of_paper lat lon meridian e = let t = paper_tells lat lon meridian e in rw (t.2, t.3) (place_is lat lon meridian t.0 t.1)
 
-  pub no_place_lem : (lat lon meridian : ℤ) → is_longitude meridian ≡ false → place_paper (place_of s lat lon meridian) ≡ no_place MERIDIAN
+  pub no_place_lem : (lat lon meridian : ℤ) → is_longitude meridian ≡ false → place_paper (place_of s lat lon meridian) ≡ no_place R.Meridian
   unfolding place_of sheet_refusal
   no_place_lem lat lon meridian m = rw m
 
-  pub no_point_lem : (x y meridian : ℤ) → is_longitude meridian ≡ false → point_paper (back_of s x y meridian) ≡ no_point MERIDIAN
+  pub no_point_lem : (x y meridian : ℤ) → is_longitude meridian ≡ false → point_paper (back_of s x y meridian) ≡ no_point R.Meridian
   unfolding back_of
   no_point_lem x y meridian m = rw m
 
@@ -140,8 +140,8 @@ module _ (s : Sheet) where
         not_zero : suc n ≡ 0 → ⊥
         not_zero e = omega arith
 
-    pub there_and_back : (lat lon meridian x y : ℤ) → is_longitude meridian ≡ true → accepted lat lon ≡ true → place_of s lat lon meridian ≡ P.At x y
-        → back_of s x y meridian ≡ Q.At lat (comes_back lat lon meridian)
+    pub there_and_back : (lat lon meridian x y : ℤ) → is_longitude meridian ≡ true → accepted lat lon ≡ true → place_of s lat lon meridian ≡ Ok (place x y)
+        → back_of s x y meridian ≡ Ok (point lat (comes_back lat lon meridian))
     unfolding back_of
     there_and_back lat lon meridian x y m h e =
         let t = place_tells lat lon meridian e in
@@ -152,7 +152,7 @@ module _ (s : Sheet) where
         = ap (λ (z : ℤ). turned (meridian +ℤ quot_z z (pos w))) t.2 ∙ lon_back lon meridian m p.1 w in
         rw (m, lat-is, lon-is, shared (eqb w 0) refl, is_at_lem x y)
       where
-        shared : (b : Bool) → eqb (s.width lat) 0 ≡ b → place_of s lat (if b then meridian else lon) meridian ≡ P.At x y
+        shared : (b : Bool) → eqb (s.width lat) 0 ≡ b → place_of s lat (if b then meridian else lon) meridian ≡ Ok (place x y)
         shared false b = e
         shared true b =
             let t = place_tells lat lon meridian e in
@@ -176,7 +176,7 @@ module _ (s : Sheet) where
       unfolding back_of
       hit t = rw (m, t)
 
-      miss : goes ≡ false → point_paper (back_of s x y meridian) ≡ no_point PLACE
+      miss : goes ≡ false → point_paper (back_of s x y meridian) ≡ no_point R.Place
       unfolding back_of
       miss t = rw (m, t)
 
@@ -192,19 +192,19 @@ module _ (s : Sheet) where
           × (s.width p.latitude ≡ 0 → offset_of p.longitude meridian ≡ pos 0)
       back_right z = by_test goes (λ t. rw (hit t) ((there_right t).0, (there_right t).1, at_pole_lem)) (λ t. refused_point (miss t) z)
 
-      back_answers : ((point_paper (back_of s x y meridian)).refusal ≡ 0) ⊎ (point_paper (back_of s x y meridian) ≡ no_point PLACE)
+      back_answers : ((point_paper (back_of s x y meridian)).refusal ≡ 0) ⊎ (point_paper (back_of s x y meridian) ≡ no_point R.Place)
       back_answers = by_test goes (λ t. inl (ap (λ (p : PointOut). p.refusal) (hit t))) (λ t. inr (miss t))
 
-      nobody : ((lat lon : ℤ) → accepted lat lon ≡ true → place_paper (place_of s lat lon meridian) ≡ there x y → ⊥) → point_paper (back_of s x y meridian) ≡ no_point PLACE
+      nobody : ((lat lon : ℤ) → accepted lat lon ≡ true → place_paper (place_of s lat lon meridian) ≡ there x y → ⊥) → point_paper (back_of s x y meridian) ≡ no_point R.Place
       nobody f = by_test goes (λ t. absurd (f lat lon (there_right t).0 (there_right t).1)) miss
 
-      somebody : point_paper (back_of s x y meridian) ≡ no_point PLACE → (lat lon : ℤ) → accepted lat lon ≡ true → place_paper (place_of s lat lon meridian) ≡ there x y → ⊥
+      somebody : point_paper (back_of s x y meridian) ≡ no_point R.Place → (lat lon : ℤ) → accepted lat lon ≡ true → place_paper (place_of s lat lon meridian) ≡ there x y → ⊥
       somebody e lat lon h f =
-          refused_point e (ap (λ (p : Point). (point_paper p).refusal) (there_and_back lat lon meridian x y m h (of_paper lat lon meridian f)))
+          refused_point e (ap (λ (p : Result Point Refusal). (point_paper p).refusal) (there_and_back lat lon meridian x y m h (of_paper lat lon meridian f)))
 
     pub demand3 : Demand3 (λ lat lon meridian. place_paper (place_of s lat lon meridian)) (λ x y meridian. point_paper (back_of s x y meridian)) (λ lat. s.width lat ≡ 0)
     demand3 = record {
-      by_range = λ lat lon meridian m. (λ h. ap (λ (p : Place). (place_paper p).refusal) (place_is lat lon meridian m h), in-range lat lon meridian);
+      by_range = λ lat lon meridian m. (λ h. ap (λ (p : Result Place Refusal). (place_paper p).refusal) (place_is lat lon meridian m h), in-range lat lon meridian);
       one_point = one_point;
       right = back_right;
       none = λ x y meridian m. (somebody x y meridian m, nobody x y meridian m);
@@ -215,7 +215,7 @@ module _ (s : Sheet) where
       where
         in-range : (lat lon meridian : ℤ) → (place_paper (place_of s lat lon meridian)).refusal ≡ 0 → accepted lat lon ≡ true
         in-range lat lon meridian e =
-            let a = sheet_accepted lat lon meridian (sym (place_refusal lat lon meridian) ∙ e) in
+            let a = sheet_accepted lat lon meridian (sent_none _ (sym (place_refusal lat lon meridian) ∙ e)) in
             true_and a.1 a.2
 
         one_point : (lat lon lat' lon' meridian x y : ℤ) → is_longitude meridian ≡ true
@@ -313,8 +313,8 @@ module _ {place : ℤ → ℤ → ℤ → PlaceOut} {b c : ℤ → ℤ → ℤ �
           ∙ ap (λ (o : ℤ). turned (meridian +ℤ o)) f
           ∙ turn_back lon' meridian (and_true (is_latitude lat') (is_longitude lon') b).1 m
 
-      go : is_longitude meridian ≡ true → ((b x y meridian).refusal ≡ 0) ⊎ (b x y meridian ≡ no_point PLACE)
-          → ((c x y meridian).refusal ≡ 0) ⊎ (c x y meridian ≡ no_point PLACE) → b x y meridian ≡ c x y meridian
+      go : is_longitude meridian ≡ true → ((b x y meridian).refusal ≡ 0) ⊎ (b x y meridian ≡ no_point R.Place)
+          → ((c x y meridian).refusal ≡ 0) ⊎ (c x y meridian ≡ no_point R.Place) → b x y meridian ≡ c x y meridian
       go m (inl h) (inl k) =
           let r = d.right x y meridian m h in
           let t = e.right x y meridian m k in
@@ -333,7 +333,7 @@ module _ (s : Sheet) (x y meridian : ℤ) (m : is_longitude meridian ≡ true) w
   goes_at lat = is_at x y (place_of s lat (lon_at lat) meridian)
 
   -- no latitude has this y
-  pub back_nobody : (is_latitude (s.latitude y) ≡ true → s.height (s.latitude y) ≡ y → ⊥) → back_of s x y meridian ≡ Q.Refused PLACE
+  pub back_nobody : (is_latitude (s.latitude y) ≡ true → s.height (s.latitude y) ≡ y → ⊥) → back_of s x y meridian ≡ Err R.Place
   unfolding back_of
   back_nobody f = rw m (by_test (goes_at (s.latitude y)) (λ t. absurd (no t)) (λ t. rw t))
     where
@@ -361,7 +361,7 @@ module _ (s : Sheet) (x y meridian : ℤ) (m : is_longitude meridian ≡ true) w
     far : (s.width lat ≡ 0 → ⊥) → is_longitude q ≡ false → if_there s x y meridian lat (lon_at lat) ≡ off_pole lat (s.width lat) x meridian
     far n o = by_test (goes_at lat) (λ t. clash (in-range t) o) (λ t. rw (t, o) (sym (either (is_exact x (s.width lat)))))
       where
-        either : (t : Bool) → unless t (Q.Refused PLACE) (Q.Refused PLACE) ≡ Q.Refused PLACE
+        either : (t : Bool) → unless {A = Result Point Refusal} t (Err R.Place) (Err R.Place) ≡ Err R.Place
         either true = refl
         either false = refl
 

@@ -1,15 +1,14 @@
 -- Which way to set off: (5-4b) of the manual in whole numbers.
 -- Assumes nothing.
-use Rattle.std.specs.Prelude.{Bool, true, false, ◌&&◌, ℕ, ◌+◌, ◌-◌, ◌%◌, ℤ, pos, nat_abs, ◌-ℤ◌, ◌*ℤ◌, if◌then◌else◌}
+use Rattle.std.specs.Prelude.{Bool, true, false, ◌&&◌, ℕ, ◌+◌, ◌-◌, ◌%◌, ℤ, pos, nat_abs, ◌-ℤ◌, ◌*ℤ◌, if◌then◌else◌, Result, Ok, Err}
 use Rattle.std.specs.Int.Signed.{quot_z, lt_z}
-use Rattle.refusals.specs.Refusal.{COURSE}
-use Rattle.refusals.specs.Choice.{answered}
+use Rattle.refusals.specs.declared.Refusal.{Refusal}
+use Rattle.refusals.specs.declared.Refusal.TheVariants as R
+use Rattle.refusals.specs.Choice.{unrefused}
 use Rattle.signed.specs.Tests.{eq_z}
 use Rattle.sines.specs.Sine.{quarter, short_unit}
 use Rattle.sines.specs.Slope.{slope_of}
 use Rattle.ticks.specs.Ticks.{half, full_turn, offset_of}
-use Rattle.globe.specs.declared.Direction.{Direction}
-use Rattle.globe.specs.declared.Direction.TheVariants.{Ticks, Refused}
 use Rattle.globe.specs.Angle.{short_cosine, short_around}
 use Rattle.globe.specs.Leg.{ends_refusal}
 
@@ -43,11 +42,11 @@ unfoldable pub course_by : ℤ → ℤ → ℕ
 course_by n d = in_quarter (lt_z n (pos 0)) (lt_z d (pos 0)) (slope_of (nat_abs d) (nat_abs n))
 
 -- "18 when N and D are both zero"
-unfoldable pub set_off : ℤ → ℤ → Direction
-set_off n d = if eq_z n (pos 0) && eq_z d (pos 0) then Refused COURSE else Ticks (course_by n d)
+unfoldable pub set_off : ℤ → ℤ → Result ℕ Refusal
+set_off n d = if eq_z n (pos 0) && eq_z d (pos 0) then Err R.Course else Ok (course_by n d)
 
 -- "after 6 and 7 of start, then end"
-unfoldable pub course_of : ℤ → ℤ → ℤ → ℤ → Direction
+unfoldable pub course_of : ℤ → ℤ → ℤ → ℤ → Result ℕ Refusal
 course_of lat lon lat' lon' =
     let offset = offset_of lon' lon in
-    answered (ends_refusal lat lon lat' lon') Refused (set_off (eastward lat' offset) (northward lat lat' offset))
+    unrefused (ends_refusal lat lon lat' lon') (set_off (eastward lat' offset) (northward lat lat' offset))

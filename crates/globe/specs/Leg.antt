@@ -1,11 +1,10 @@
 -- The length of a leg: (5-3a) of the manual in whole numbers.
 -- Assumes nothing.
-use Rattle.std.specs.Prelude.{ℕ, ◌+◌, ◌-◌, ◌*◌, ◌/◌, min, ℤ, nat_abs, ◌-ℤ◌}
+use Rattle.std.specs.Prelude.{ℕ, ◌+◌, ◌-◌, ◌*◌, ◌/◌, min, ℤ, nat_abs, ◌-ℤ◌, Result}
 use Rattle.sines.specs.Sine.{quarter, long_sine, leg_shortening, leg_unit, leg_sine}
 use Rattle.sines.specs.Back.{greatest_angle}
-use Rattle.globe.specs.declared.Length.{Length}
-use Rattle.globe.specs.declared.Length.TheVariants.{Millimetres, Refused}
-use Rattle.refusals.specs.Choice.{first_of, answered}
+use Rattle.refusals.specs.declared.Refusal.{Refusal}
+use Rattle.refusals.specs.Choice.{Check, first_of, answered}
 use Rattle.roots.specs.Root.{root_of}
 use Rattle.ticks.specs.Ticks.{full_turn, point_refusal}
 
@@ -44,8 +43,8 @@ unfoldable pub leg_length : ℤ → ℤ → ℤ → ℤ → ℕ
 leg_length lat lon lat' lon' = length_of (chord (cosines lat lat') (half_north lat lat') (half_east lon lon'))
 
 -- "6 and 7 of the first point, then of the second"
-abbrev pub ends_refusal : ℤ → ℤ → ℤ → ℤ → ℕ
+abbrev pub ends_refusal : ℤ → ℤ → ℤ → ℤ → Check
 ends_refusal lat lon lat' lon' = first_of (point_refusal lat lon) (point_refusal lat' lon')
 
-unfoldable pub leg_of : ℤ → ℤ → ℤ → ℤ → Length
-leg_of lat lon lat' lon' = answered (ends_refusal lat lon lat' lon') Refused (Millimetres (leg_length lat lon lat' lon'))
+unfoldable pub leg_of : ℤ → ℤ → ℤ → ℤ → Result ℕ Refusal
+leg_of lat lon lat' lon' = answered (ends_refusal lat lon lat' lon') (leg_length lat lon lat' lon')

@@ -1,11 +1,10 @@
 -- The length of a point buffer.
 -- Assumes nothing.
-use Rattle.std.specs.Prelude.{ℕ, zero, suc, ◌+◌, ◌-◌, List, ℤ, pos, if◌then◌else◌}
+use Rattle.std.specs.Prelude.{ℕ, zero, suc, ◌+◌, ◌-◌, List, ℤ, pos, if◌then◌else◌, Result}
+use Rattle.refusals.specs.declared.Refusal.{Refusal}
 use Rattle.refusals.specs.Choice.{answered}
 use Rattle.signed.specs.Tests.{eq_z}
 use Rattle.points.specs.Points.{latitude_at, longitude_at, third_at, count, buffer_refusal}
-use Rattle.globe.specs.declared.Length.{Length}
-use Rattle.globe.specs.declared.Length.TheVariants.{Millimetres, Refused}
 use Rattle.globe.specs.Leg.{leg_length}
 
 -- the leg into point i, "the leg into the next point not counted" where the pen was up
@@ -19,5 +18,5 @@ unfoldable pub length_up_to : List ℤ → ℕ → ℕ
 length_up_to b zero = 0
 length_up_to b (suc n) = length_up_to b n + leg_into b n
 
-unfoldable pub measure_of : List ℤ → Length
-measure_of b = answered (buffer_refusal b) Refused (Millimetres (length_up_to b (count b)))
+unfoldable pub measure_of : List ℤ → Result ℕ Refusal
+measure_of b = answered (buffer_refusal b) (length_up_to b (count b))

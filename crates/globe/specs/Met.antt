@@ -1,12 +1,13 @@
 -- Whether a point buffer meets a target, and how many of its points are looked at.
 -- Assumes nothing.
-use Rattle.std.specs.Prelude.{Bool, List, ℕ, leb, ℤ, if◌then◌else◌}
-use Rattle.refusals.specs.Refusal.{TARGET}
-use Rattle.refusals.specs.Choice.{unless, first_of, answered}
+use Rattle.std.specs.Prelude.{Bool, List, ℕ, leb, ℤ, if◌then◌else◌, Result, Err}
+use Rattle.refusals.specs.declared.Refusal.{Refusal}
+use Rattle.refusals.specs.declared.Refusal.TheVariants as R
+use Rattle.refusals.specs.Choice.{unless, fine, first_of, answered}
 use Rattle.sines.specs.Least.{least}
 use Rattle.points.specs.Points.{count, buffer_refusal}
 use Rattle.globe.specs.declared.Met.{Met}
-use Rattle.globe.specs.declared.Met.TheVariants.{Yes, No, Refused}
+use Rattle.globe.specs.declared.Met.TheVariants.{Yes, No}
 use Rattle.globe.specs.Measure.{length_up_to}
 
 -- the greatest target, in millimetres
@@ -26,5 +27,5 @@ unfoldable pub walked : List ℤ → ℕ → Met
 walked b target = if reaches b target (count b) then Yes (looked_at b target) else No (looked_at b target)
 
 -- "Refusals: R-1's for the buffer, all found before any leg is measured, then 16 only for a target above 999,999,000."
-unfoldable pub met_of : List ℤ → ℕ → Met
-met_of b target = answered (first_of (buffer_refusal b) (unless (leb target most_target) TARGET 0)) Refused (walked b target)
+unfoldable pub met_of : List ℤ → ℕ → Result Met Refusal
+met_of b target = answered (first_of (buffer_refusal b) (unless (leb target most_target) (Err R.Target) fine)) (walked b target)

@@ -1,7 +1,7 @@
 -- Laws of digits: those that stand first in a text, how they are walked from the left, and how large a number they make.
 -- Assumes nothing.
-use Rattle.std.specs.Prelude.{◌≡◌, refl, true, false, ◌&&◌, List, [], ◌∷◌, ◌++◌, ℕ, zero, suc, ◌+◌, ◌-◌, ◌*◌, ◌^◌, ◌≤◌, ◌<◌, T, eqb, ltb, leb, length, take, drop, get_or, if◌then◌else◌}
-use Rattle.std.proofs.Common.{sym, ap, subst, ◌∙◌, lt_of_lt_of_le, mul-le-mul_right, pow-suc, add-one, arith, ltb-false, leb-true, le-leb, ne_eqb, lit<, length-append, drop_of_length-le, pow-add, drop-cons}
+use Rattle.std.specs.Prelude.{◌≡◌, refl, true, false, ◌&&◌, List, [], ◌∷◌, ◌++◌, ℕ, zero, suc, min, ◌+◌, ◌-◌, ◌*◌, ◌^◌, ◌≤◌, ◌<◌, T, eqb, ltb, leb, length, take, drop, get_or, if◌then◌else◌}
+use Rattle.std.proofs.Common.{sym, ap, subst, ◌∙◌, lt_of_lt_of_le, mul-le-mul_right, pow-suc, add-one, arith, ltb-true, ltb-false, leb-true, le-leb, ne_eqb, lit<, length-append, drop_of_length-le, pow-add, drop-cons}
 use Rattle.std.proofs.Math.Nat.{one-le-pow, pow-le-pow_right}
 use Rattle.std.proofs.Math.Seq.{take-length}
 use Rattle.refusals.specs.Tests.{by_test, and_true}
@@ -23,11 +23,17 @@ digit_range b e =
 -- what is left after i bytes, of which most - i may still be read
 module _ (most : ℕ) (s : List ℕ) (i : ℕ) where
   -- nothing more may be read, or nothing is left
+  pub leading_past : min most (length s) ≤ i → leading (most - i) (drop i s) ≡ []
+  leading_past h =
+      by_test (ltb i most)
+      (λ t. let k : length s ≤ i = omega (arith, ltb-true i most t) in rw (drop_of_length-le s k) (leading_none (most - i)))
+      (λ t. let z : most - i ≡ 0 = omega (arith, ltb-false i most t) in rw z)
+
   pub leading_done : (ltb i most && ltb i (length s)) ≡ false → leading (most - i) (drop i s) ≡ []
   leading_done e =
       by_test (ltb i most)
-      (λ t. let k : ltb i (length s) ≡ false = rw t at e in rw (drop_of_length-le s (ltb-false _ _ k)) (leading_none (most - i)))
-      (λ t. let z : most - i ≡ 0 = omega (arith, ltb-false i most t) in rw z)
+      (λ t. let k : ltb i (length s) ≡ false = rw t at e in leading_past (omega (arith, ltb-false _ _ k)))
+      (λ t. leading_past (omega (arith, ltb-false i most t)))
 
   module _ (h : i < most) (k : i < length s) where
     leading_at : leading (most - i) (drop i s) ≡ (if is_digit (get_or s i 0) then get_or s i 0 ∷ leading (most - (i + 1)) (drop (i + 1) s) else [])

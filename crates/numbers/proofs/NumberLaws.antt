@@ -1,19 +1,21 @@
 -- Laws of numbers: how large a number of its kind is, what a number is for each way out of its reading, and what one that was read tells.
 -- Assumes nothing.
-use Rattle.std.specs.Prelude.{◌≡◌, refl, Bool, not, ◌||◌, ◌⊎◌, ℤ, pos, negsuc, nat_abs, take, get_or, if◌then◌else◌}
+use Rattle.std.specs.Prelude.{◌≡◌, refl, Bool, not, ◌||◌, ◌⊎◌, ℤ, pos, negsuc, nat_abs, take, get_or, if◌then◌else◌, Ok, Err, Some, None}
 use Rattle.std.proofs.Math.Path.{sym}
-use Rattle.std.proofs.Common.{ap, subst, ◌∙◌, inl, inr, ⊎_elim, lt_of_lt_of_le, mul-le-mul_right, add-one, lit<, pow-add, take_all, length-take-le}
+use Rattle.std.proofs.Common.{ap, ◌∙◌, inl, inr, ⊎_elim, lt_of_lt_of_le, mul-le-mul_right, add-one, lit<, pow-add, take_all, length-take-le}
 use Rattle.std.proofs.Math.Bool.{true, false}
 use mathlib.Core.List.{List, [], ◌∷◌, ◌++◌, append-nil}
-use Prim.Native.Nat.{ℕ, zero, suc, ◌+◌, ◌-◌, ◌*◌, ◌^◌, ◌≤◌, ◌<◌}
+use Prim.Native.Nat.{ℕ, suc, ◌+◌, ◌-◌, ◌*◌, ◌^◌, ◌≤◌, ◌<◌}
 use Rattle.std.proofs.Math.Nat.{one-le-pow, pow-le-pow_right}
 use native.Mathlib.Omega.{arith}
-use borrow.Author.Tests.{lt-ltb, eq-eqb, ne_eqb}
-use Rattle.std.proofs.Math.Dec.{T, eqb}
+use borrow.Author.Tests.{lt-ltb, ne_eqb}
+use Rattle.std.proofs.Math.Dec.{eqb}
 use Rattle.std.proofs.Math.ListN.{length, drop_of_length-le}
 use Rattle.std.proofs.Math.Seq.{take-length}
-use Rattle.refusals.specs.Refusal.{NUMBER, MARK, of_line}
-use Rattle.refusals.specs.Choice.{unless, answered}
+use Rattle.refusals.specs.declared.Refusal.{Refusal}
+use Rattle.refusals.specs.declared.Refusal.TheVariants as R
+use Rattle.refusals.specs.Refusal.{of_line}
+use Rattle.refusals.specs.Choice.{unless, fine, answered}
 use Rattle.refusals.specs.Tests.{by_test, clash, and_true, and_no}
 use Rattle.signed.specs.SignLaws.{as_size}
 use Rattle.ticks.specs.Ticks.{is_latitude, is_longitude}
@@ -21,8 +23,6 @@ use Rattle.numbers.specs.declared.Mark.{Mark}
 use Rattle.numbers.specs.declared.Mark.TheVariants as M
 use Rattle.numbers.specs.declared.Kind.{Kind}
 use Rattle.numbers.specs.declared.Kind.TheVariants as K
-use Rattle.numbers.specs.declared.Number.TheVariants as N
-use Rattle.numbers.specs.declared.digits.Amount.TheVariants as A
 use Rattle.numbers.specs.Pieces.{TAB, index_of, holds, is_byte}
 use Rattle.numbers.specs.PieceLaws.{onward}
 use Rattle.numbers.proofs.PieceLaws.{onward_drop, holds_index, index_within, index_at, index_least, holds_none, held_within, none_held, holds_append, first_cut, first_is}
@@ -31,9 +31,10 @@ use Rattle.numbers.specs.DigitLaws.{most_digits, is_digit, value_from, leading}
 use Rattle.numbers.proofs.DigitLaws.{leading_take, leading_all, leading_most, leading_within, leading_index, leading_longest, are_digits_lem, leading_are, leading_whole, join_below, value_below, value_from_lem, value_append, wholes_below, places_below, digits_free}
 use Rattle.numbers.specs.NumberLaws.{wholes, range_refusal, before, behind, is_plain, size_of, has_minus, past, signed, made_of, amount_of, fault_of, Read, NumberSays, refused, value}
 
-pub ranged_cases : {P : Type 0} (kind : Kind) (v : ℤ) → (ranged kind v ≡ N.Value v → P) → ((n : ℕ) → ranged kind v ≡ N.Refused n → of_line n ≡ true → P) → P
-ranged_cases K.Latitude v f g = by_test (is_latitude v) (λ t. f (rw t)) (λ t. g (range_refusal K.Latitude v) (rw t) (rw t))
-ranged_cases K.Longitude v f g = by_test (is_longitude v) (λ t. f (rw t)) (λ t. g (range_refusal K.Longitude v) (rw t) (rw t))
+pub ranged_cases : {P : Type 0} (kind : Kind) (v : ℤ) → (ranged kind v ≡ Ok v → P)
+    → ((r : Refusal) → ranged kind v ≡ Err r → of_line r ≡ true → P) → P
+ranged_cases K.Latitude v f g = by_test (is_latitude v) (λ t. f (rw t)) (λ t. g R.Latitude (rw t) refl)
+ranged_cases K.Longitude v f g = by_test (is_longitude v) (λ t. f (rw t)) (λ t. g R.Longitude (rw t) refl)
 ranged_cases K.Target v f g = f refl
 
 pub none_behind : (b : ℕ) (s : List ℕ) → holds b s ≡ false → behind b s ≡ []
@@ -46,8 +47,8 @@ unmarked kind mark s t = by_test (has_minus kind s) (λ u. rw (t, u)) (λ u. rw 
 
 -- what is answered, by the first of its faults
 pub number_cases : {P : Type 0} (kind : Kind) (mark : Mark) (s : List ℕ)
-    → (holds (other_byte mark) s ≡ true → number_of kind mark s ≡ N.Refused MARK → P)
-    → (holds (other_byte mark) s ≡ false → is_plain kind (named_byte mark) (past kind s) ≡ false → number_of kind mark s ≡ N.Refused NUMBER → P)
+    → (holds (other_byte mark) s ≡ true → number_of kind mark s ≡ Err R.Mark → P)
+    → (holds (other_byte mark) s ≡ false → is_plain kind (named_byte mark) (past kind s) ≡ false → number_of kind mark s ≡ Err R.Number → P)
     → (is_plain kind (named_byte mark) (past kind s) ≡ true → number_of kind mark s ≡ ranged kind (made_of kind mark s) → P) → P
 unfolding number_of
 number_cases kind mark s five four read =
@@ -59,12 +60,12 @@ number_cases kind mark s five four read =
     (λ u. four t u (unmarked kind mark s t ∙ rw u)))
 
 -- an amount, and what its test says
-amount_value : (t : Bool) (n m : ℕ) → unless t A.Not (A.Value n) ≡ A.Value m → (t ≡ true) × (n ≡ m)
+amount_value : (t : Bool) (n m : ℕ) → unless t None (Some n) ≡ Some m → (t ≡ true) × (n ≡ m)
 amount_value true n m e = (refl, cc)
-amount_value false n m e = let z : ◌≡◌ {A = ℕ} 0 1 = cc in absurd (omega arith)
+amount_value false n m e = grind arith
 
-amount_not : (t : Bool) (n : ℕ) → unless t A.Not (A.Value n) ≡ A.Not → t ≡ false
-amount_not true n e = let z : ◌≡◌ {A = ℕ} 0 1 = cc in absurd (omega arith)
+amount_not : (t : Bool) (n : ℕ) → unless t None (Some n) ≡ None → t ≡ false
+amount_not true n e = grind arith
 amount_not false n e = refl
 
 -- there is room for the digits before the mark, and after them for those behind it
@@ -117,14 +118,14 @@ module _ (kind : Kind) (b : ℕ) (s : List ℕ) (e : is_plain kind b s ≡ true)
       rw (size_is (places kind) (before b s) (behind b s) plain_few)
       (join_below wholes (places kind) (value_of (before b s)) _ (wholes_below wholes (before b s) plain_wholes) places_left)
 
-plain_below : (kind : Kind) (b : ℕ) (s : List ℕ) (n : ℕ) → amount_of kind b s ≡ A.Value n → n < 10 ^ (wholes + places kind)
+plain_below : (kind : Kind) (b : ℕ) (s : List ℕ) (n : ℕ) → amount_of kind b s ≡ Some n → n < 10 ^ (wholes + places kind)
 unfolding amount_of
 plain_below kind b s n e =
     let t = amount_value (is_plain kind b s) (size_of kind b s) n e in
     rw t.1 at (size_below kind b s t.0)
 
 -- so few digits fit 64 bits with their sign
-pub plain_small : (kind : Kind) (b : ℕ) (s : List ℕ) (n : ℕ) → amount_of kind b s ≡ A.Value n → n < 10 ^ most_digits
+pub plain_small : (kind : Kind) (b : ℕ) (s : List ℕ) (n : ℕ) → amount_of kind b s ≡ Some n → n < 10 ^ most_digits
 plain_small kind b s n e = lt_of_lt_of_le (plain_below kind b s n e) (pow-le-pow_right (lit< tt) (few_digits kind))
 
 -- ---- without a minus: one law for each way out
@@ -140,7 +141,7 @@ module _ (kind : Kind) (b : ℕ) (n : is_digit b ≡ false) (s : List ℕ) where
       let up = leading_longest wholes i s (index_within b s) (omega arith) d.2 in
       (omega arith, omega (arith, leading_index b wholes s n))
 
-  no_wholes : (1 ≤ index_of b s → index_of b s ≡ length (leading wholes s) → ⊥) → amount_of kind b s ≡ A.Not
+  no_wholes : (1 ≤ index_of b s → index_of b s ≡ length (leading wholes s) → ⊥) → amount_of kind b s ≡ None
   unfolding amount_of
   no_wholes h =
       let i = index_of b s in
@@ -148,14 +149,14 @@ module _ (kind : Kind) (b : ℕ) (n : is_digit b ≡ false) (s : List ℕ) where
       (λ t. let w = wholes_first t in absurd (h w.0 w.1))
       (λ t. rw t)
 
-  pub plain_none : length (leading wholes s) ≡ 0 → amount_of kind b s ≡ A.Not
+  pub plain_none : length (leading wholes s) ≡ 0 → amount_of kind b s ≡ None
   plain_none h = no_wholes (λ p q. omega arith)
 
-  pub plain_other : length (leading wholes s) < length s → (get_or s (length (leading wholes s)) 0 ≡ b → ⊥) → amount_of kind b s ≡ A.Not
+  pub plain_other : length (leading wholes s) < length s → (get_or s (length (leading wholes s)) 0 ≡ b → ⊥) → amount_of kind b s ≡ None
   plain_other h k = no_wholes (λ p q. k (rw q at (index_at b s (omega arith))))
 
   module _ (h : 1 ≤ length (leading wholes s)) where
-    pub plain_whole : length (leading wholes s) ≡ length s → amount_of kind b s ≡ A.Value (value_of (leading wholes s) * 10 ^ places kind)
+    pub plain_whole : length (leading wholes s) ≡ length s → amount_of kind b s ≡ Some (value_of (leading wholes s) * 10 ^ places kind)
     unfolding amount_of
     plain_whole e =
         let q = leading_whole wholes s e in
@@ -180,21 +181,26 @@ module _ (kind : Kind) (b : ℕ) (n : is_digit b ≡ false) (s : List ℕ) where
       held : holds b s ≡ true
       held = holds_index b s ∙ lt-ltb (index_of b s) (length s) (omega (arith, at))
 
-      pub plain_bad : (eqb (length (leading (places kind) t)) 0 || not (eqb (length (leading (places kind) t)) (length t))) ≡ true → amount_of kind b s ≡ A.Not
+      -- digits up to the end are all that stand first
+      no_decimals : (1 ≤ length (leading (places kind) t) → length (leading (places kind) t) ≡ length t → ⊥) → amount_of kind b s ≡ None
       unfolding amount_of
-      plain_bad e =
+      no_decimals h =
           by_test (are_digits (places kind) t)
           (λ a.
           let d = are_digits_lem (places kind) t a in
           let all : all_digits (take (length t) t) ≡ true = rw (take-length t) d.2 in
           let up = leading_longest (places kind) (length t) t (omega arith) d.1 all in
-          let q : length (leading (places kind) t) ≡ length t = omega (arith, leading_within (places kind) t) in
-          let z : eqb (length t) 0 ≡ false = ne_eqb (length t) 0 (λ y. omega arith) in
-          absurd (subst T (sym (rw (q, z, eq-eqb (length t) (length t) refl) at e)) tt))
+          absurd (h (omega arith) (omega (arith, leading_within (places kind) t))))
           (λ a. rw (held, first, second, a, and_no (are_digits wholes (leading wholes s)) false refl))
 
+      pub plain_bare : length (leading (places kind) t) ≡ 0 → amount_of kind b s ≡ None
+      plain_bare e = no_decimals (λ o q. omega arith)
+
+      pub plain_bad : (length (leading (places kind) t) ≡ length t → ⊥) → amount_of kind b s ≡ None
+      plain_bad f = no_decimals (λ o q. f q)
+
       pub plain_both : 1 ≤ length (leading (places kind) t) → length (leading (places kind) t) ≡ length t
-          → amount_of kind b s ≡ A.Value (value_from (value_of (leading wholes s)) (leading (places kind) t) * 10 ^ (places kind - length (leading (places kind) t)))
+          → amount_of kind b s ≡ Some (value_from (value_of (leading wholes s)) (leading (places kind) t) * 10 ^ (places kind - length (leading (places kind) t)))
       unfolding amount_of
       plain_both o e =
           let w = leading wholes s in
@@ -262,39 +268,39 @@ module _ (kind : Kind) (s : List ℕ) (i : ℕ) (e : i ≡ (if has_minus kind s 
   past_within = rw e (past_most kind s)
 
   module _ (mark : Mark) where
-    pub number_value : (n : ℕ) → amount_of kind (named_byte mark) (onward s i) ≡ A.Value n → number_of kind mark s ≡ ranged kind (signed (has_minus kind s) (pos n))
+    pub number_value : (n : ℕ) → amount_of kind (named_byte mark) (onward s i) ≡ Some n
+        → number_of kind mark s ≡ ranged kind (signed (has_minus kind s) (pos n))
     unfolding amount_of
     number_value n h =
         let b = named_byte mark in
         let p = past kind s in
-        let k : unless (is_plain kind b p) A.Not (A.Value (size_of kind b p)) ≡ A.Value n = rw (onward_drop s i, e) at h in
+        let k : unless (is_plain kind b p) None (Some (size_of kind b p)) ≡ Some n = rw (onward_drop s i, e) at h in
         let t = amount_value (is_plain kind b p) (size_of kind b p) n k in
         number_cases kind mark s
         (λ f q. clash f (plain_unmarked kind mark s t.0))
         (λ f u q. clash t.0 u)
         (λ u q. q ∙ rw t.1)
 
-    pub number_fault : amount_of kind (named_byte mark) (onward s i) ≡ A.Not → number_of kind mark s ≡ N.Refused (fault_of mark s)
+    pub number_fault : amount_of kind (named_byte mark) (onward s i) ≡ None → number_of kind mark s ≡ Err (fault_of mark s)
     unfolding amount_of
     number_fault h =
         let b = named_byte mark in
         let p = past kind s in
-        let k : unless (is_plain kind b p) A.Not (A.Value (size_of kind b p)) ≡ A.Not = rw (onward_drop s i, e) at h in
+        let k : unless (is_plain kind b p) None (Some (size_of kind b p)) ≡ None = rw (onward_drop s i, e) at h in
         number_cases kind mark s
         (λ f q. q ∙ rw f)
         (λ f u q. q ∙ rw f)
         (λ u q. clash u (amount_not (is_plain kind b p) (size_of kind b p) k))
 
 -- the value, but for what refuses it
-pub ranged_is : (kind : Kind) (v : ℤ) → ranged kind v ≡ answered (range_refusal kind v) N.Refused (N.Value v)
+pub ranged_is : (kind : Kind) (v : ℤ) → ranged kind v ≡ answered (range_refusal kind v) v
 ranged_is K.Latitude v = by_test (is_latitude v) (λ t. rw t) (λ t. rw t)
 ranged_is K.Longitude v = by_test (is_longitude v) (λ t. rw t) (λ t. rw t)
 ranged_is K.Target v = refl
 
 -- a refusal is what is answered
-pub answered_refused : (r : ℕ) (v : ℤ) → (r ≡ 0 → ⊥) → N.Refused r ≡ answered r N.Refused (N.Value v)
-answered_refused zero v f = absurd (f refl)
-answered_refused (suc r) v f = refl
+pub answered_refused : (r : Refusal) (v : ℤ) → Err r ≡ answered (Err r) v
+answered_refused r v = refl
 
 -- ---- what a number that was read tells
 
@@ -306,11 +312,11 @@ mark_no_tab : (mark : Mark) → named_byte mark ≡ TAB → ⊥
 mark_no_tab M.Point e = omega arith
 mark_no_tab M.Comma e = omega arith
 
-pub refused_value : {P : Type 0} {n : ℕ} {v : ℤ} → N.Refused n ≡ N.Value v → P
-refused_value e = let z : ◌≡◌ {A = ℕ} 0 1 = cc in absurd (omega arith)
+pub refused_value : {P : Type 0} {r : Refusal} {v : ℤ} → Err r ≡ Ok v → P
+refused_value e = let z : ⊥ = grind arith in absurd z
 
 module _ (kind : Kind) (mark : Mark) (s : List ℕ) (v : ℤ) where
-  number_read : number_of kind mark s ≡ N.Value v → Read kind mark s v
+  number_read : number_of kind mark s ≡ Ok v → Read kind mark s v
   number_read e =
       let made = made_of kind mark s in
       number_cases kind mark s
@@ -319,13 +325,13 @@ module _ (kind : Kind) (mark : Mark) (s : List ℕ) (v : ℤ) where
       (λ u q.
       ranged_cases kind made
       (λ r.
-      let same : N.Value made ≡ N.Value v = sym r ∙ sym q ∙ e in
+      let same : Ok made ≡ Ok v = sym r ∙ sym q ∙ e in
       let m : v ≡ made = cc in
       record { plain = u; made = m; within = rw (m, r) })
       (λ n r l. refused_value (sym r ∙ sym q ∙ e)))
 
-  module _ (e : number_of kind mark s ≡ N.Value v) where
-    pub number_in : range_refusal kind v ≡ 0
+  module _ (e : number_of kind mark s ≡ Ok v) where
+    pub number_in : range_refusal kind v ≡ fine
     number_in = (number_read e).within
 
     pub number_size : nat_abs v < 10 ^ (wholes + places kind)
@@ -336,11 +342,11 @@ module _ (kind : Kind) (mark : Mark) (s : List ℕ) (v : ℤ) where
     pub number_untabbed : length s ≤ index_of TAB s
     number_untabbed = none_held TAB s (plain_free kind mark s TAB refl (mark_no_tab mark) (λ y. omega arith) (number_read e).plain)
 
-pub latitude_in : (v : ℤ) → range_refusal K.Latitude v ≡ 0 → is_latitude v ≡ true
-latitude_in v e = by_test (is_latitude v) (λ t. t) (λ t. let z = rw t at e in absurd (omega arith))
+pub latitude_in : (v : ℤ) → range_refusal K.Latitude v ≡ fine → is_latitude v ≡ true
+latitude_in v e = by_test (is_latitude v) (λ t. t) (λ t. let z = rw t at e in grind arith)
 
-pub longitude_in : (v : ℤ) → range_refusal K.Longitude v ≡ 0 → is_longitude v ≡ true
-longitude_in v e = by_test (is_longitude v) (λ t. t) (λ t. let z = rw t at e in absurd (omega arith))
+pub longitude_in : (v : ℤ) → range_refusal K.Longitude v ≡ fine → is_longitude v ≡ true
+longitude_in v e = by_test (is_longitude v) (λ t. t) (λ t. let z = rw t at e in grind arith)
 
 ranged_says : (kind : Kind) (v : ℤ) → NumberSays kind (ranged kind v)
 ranged_says kind v = ranged_cases kind v (λ r. rw r (value {v = v} (rw r))) (λ n r l. rw r (refused l))

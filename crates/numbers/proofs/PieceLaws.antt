@@ -1,10 +1,14 @@
 -- Laws of the pieces of a text: how a search walks it, and how its pieces follow from the place of the first byte that parts them.
 -- Assumes nothing.
-use Rattle.std.specs.Prelude.{◌≡◌, refl, true, false, ◌&&◌, ◌||◌, List, [], ◌∷◌, ◌++◌, ℕ, zero, suc, ◌+◌, ◌-◌, ◌≤◌, ◌<◌, T, eqb, ltb, length, take, drop, get_or}
-use Rattle.std.proofs.Common.{sym, ap, subst, ◌∙◌, zero-add, add-zero, le_of_eq, add-one, arith, lt-ltb, le-ltb, ltb-true, ltb-false, eq-eqb, eqb-true, ne_eqb, length-drop, drop_of_length-le, drop-cons, take_all}
+use Rattle.std.specs.Prelude.{◌≡◌, refl, true, false, ◌&&◌, ◌||◌, List, [], ◌∷◌, ◌++◌, ℕ, zero, suc, ◌+◌, ◌-◌, ◌*◌, ◌≤◌, ◌<◌, T, eqb, ltb, length, take, drop, get_or, nat_eq, Bool, Option, Some, None, unwrap_or, cond, not}
+use Rattle.std.specs.List.{list_any, position_or_len}
+use Rattle.std.specs.Simd.{first_chunks}
+use lib.Pointwise.{pointwise}
+use Rattle.std.proofs.Common.{sym, ap, subst, ◌∙◌, zero-add, add-zero, le_of_eq, add-one, arith, lt-ltb, le-ltb, ltb-true, ltb-false, eq-eqb, eqb-true, ne_eqb, length-drop, drop_of_length-le, drop-cons, take_all, drop-drop, mul-le-mul_right}
+use Rattle.std.proofs.lemmas.List.Sums.{prefix_len-le-length}
 use Rattle.std.proofs.Math.Dec.{leb-suc-suc}
-use Rattle.std.proofs.Math.Seq.{split_at}
-use Rattle.refusals.specs.Tests.{by_test, clash, and_true, and_yes, and_no, or_yes}
+use Rattle.std.proofs.Math.Seq.{split_at, take-suc}
+use Rattle.refusals.specs.Tests.{by_test, clash, and_true, and_yes, and_no, or_yes, or_false}
 use Rattle.numbers.specs.Pieces.{onto, split, index_of, holds, is_byte, same}
 use Rattle.numbers.specs.PieceLaws.{onward, NoneBefore}
 
@@ -64,6 +68,11 @@ index_least b (x ∷ s) (suc i) h e =
     (λ t. rw t (omega arith))
     (λ t. rw t (omega (arith, index_least b s i (omega arith) e)))
 
+-- as std tells it
+position_index : (b : ℕ) (s : List ℕ) → position_or_len (λ x. eqb x b) s ≡ index_of b s
+position_index b [] = refl
+position_index b (x ∷ s) = by_test (eqb x b) (λ t. rw t) (λ t. rw t (omega (arith, position_index b s)))
+
 -- ---- whether it stands anywhere
 
 -- it does where the place of the first is a place of the text
@@ -73,6 +82,11 @@ holds_index b (x ∷ s) =
     by_test (eqb x b)
     (λ t. rw t (sym (lt-ltb 0 (suc (length s)) (omega arith))))
     (λ t. rw t (holds_index b s ∙ sym (leb-suc-suc (suc (index_of b s)) (length s))))
+
+-- as std tells it
+pub holds_any : (b : ℕ) (s : List ℕ) → list_any (λ y. nat_eq y b) s ≡ holds b s
+holds_any b [] = refl
+holds_any b (x ∷ s) = rw (holds_any b s)
 
 pub holds_none : (b : ℕ) (s : List ℕ) → length s ≤ index_of b s → holds b s ≡ false
 holds_none b s h = holds_index b s ∙ le-ltb _ _ h
@@ -90,6 +104,16 @@ holds_append b (x ∷ s) t =
     (λ e. rw e)
     (λ e. rw e (holds_append b s t))
 
+or_not : (t : Bool) → t || false ≡ t
+or_not true = refl
+or_not false = refl
+
+-- one byte more, as a loop goes on
+pub holds_more : (b : ℕ) (s : List ℕ) (i : ℕ) → i < length s → holds b (take (i + 1) s) ≡ holds b (take i s) || eqb (get_or s i 0) b
+holds_more b s i h =
+    rw (add-one, take-suc s i 0 h, holds_append b (take i s) (get_or s i 0 ∷ []))
+    (ap (λ (t : Bool). holds b (take i s) || t) (or_not (eqb (get_or s i 0) b)))
+
 -- a text that has b, cut at its first
 pub first_cut : (b i : ℕ) (s : List ℕ) → i ≡ index_of b s → i < length s → s ≡ take i s ++ b ∷ drop (suc i) s
 first_cut b i s e h = split_at s i 0 h ∙ ap (λ (x : ℕ). take i s ++ x ∷ drop (suc i) s) (rw e (index_at b s (rw e at h)))
@@ -103,6 +127,49 @@ pub holds_cut : (b : ℕ) (s : List ℕ) → holds b s ≡ true → (a : List �
 holds_cut b s e =
     let i = index_of b s in
     (take i s, drop (suc i) s, first_cut b i s refl (held_within b s e))
+
+-- none among the next k
+index_skip : (b k : ℕ) (s : List ℕ) → k ≤ length s → holds b (take k s) ≡ false → index_of b s ≡ k + index_of b (drop k s)
+index_skip b zero s h e = sym (zero-add _)
+index_skip b (suc k) [] h e = absurd (omega arith)
+index_skip b (suc k) (x ∷ s) h e =
+    let p = or_false (eqb x b) (holds b (take k s)) e in
+    rw p.0 (omega (arith, index_skip b k s (omega arith) p.1))
+
+-- as many strides as stand before the first that has b
+module _ (b n : ℕ) where
+  none_of : 0 * n ≡ 0
+  none_of = omega arith
+
+  strides_skip : (k : ℕ) (s : List ℕ) → k * n ≤ length s
+      → let p = position_or_len (holds b) (first_chunks n k s) in (p ≤ k) × (index_of b s ≡ p * n + index_of b (drop (p * n) s))
+  strides_skip zero s h = (omega arith, rw none_of (sym (zero-add _)))
+  strides_skip (suc k) s h =
+      by_test (holds b (take n s))
+      (λ t. rw (t, none_of) (omega arith, sym (zero-add _)))
+      (λ t.
+      let s' = drop n s in
+      let r = strides_skip k s' (omega (arith, h, length-drop n s)) in
+      let p = position_or_len (holds b) (first_chunks n k s') in
+      let z : (1 + p) * n ≡ n + p * n = omega arith in
+      rw t (omega (arith, r.0), rw (z, ← drop-drop (p * n) n s) (omega (arith, r.1, index_skip b n s (omega (arith, h)) t))))
+
+  pub skipped : (k : ℕ) (s : List ℕ) → k * n ≤ length s → NoneBefore b s (position_or_len (holds b) (first_chunks n k s) * n)
+  skipped k s h =
+      let r = strides_skip k s h in
+      record { inside = omega (arith, mul-le-mul_right n r.0, h); onwards = sym r.1 }
+
+-- what std's search answers, with the length where it finds none
+pub position_or : {X : Type 0} (test : X → Bool) (s : List X) (o : Option ℕ)
+    → o ≡ cond (ltb (position_or_len test s) (length s)) (Some (position_or_len test s)) None → unwrap_or o (length s) ≡ position_or_len test s
+position_or test s o e =
+    by_test (ltb (position_or_len test s) (length s))
+    (λ t. rw (e, t))
+    (λ t. rw (e, t) (omega (arith, ltb-false _ _ t, prefix_len-le-length (λ x. not (test x)) s)))
+
+-- the first b behind a place that none stands before
+pub found_from : (b : ℕ) (s : List ℕ) (from : ℕ) → NoneBefore b s from → from + position_or_len (λ x. eqb x b) (onward s from) ≡ index_of b s
+found_from b s from n = rw (position_index b (onward s from), onward_drop s from) n.onwards
 
 -- ---- the pieces
 
@@ -191,6 +258,12 @@ module _ (a b : List ℕ) (i : ℕ) (ha : i < length a) (hb : i < length b) wher
 
   pub same_stop : (get_or a i 0 ≡ get_or b i 0 → ⊥) → same (drop i a) (drop i b) ≡ false
   same_stop e = same_at ∙ rw (ne_eqb _ _ e)
+
+pub same_pointwise : (a b : List ℕ) → pointwise nat_eq a b ≡ same a b
+same_pointwise [] [] = refl
+same_pointwise [] (y ∷ t) = refl
+same_pointwise (x ∷ s) [] = refl
+same_pointwise (x ∷ s) (y ∷ t) = rw (same_pointwise s t)
 
 pub same_end : (a b : List ℕ) (i : ℕ) → length a ≤ i → length b ≤ i → same (drop i a) (drop i b) ≡ true
 same_end a b i p q = rw (drop_of_length-le a p, drop_of_length-le b q)

@@ -1,12 +1,14 @@
 -- Laws of a number as it is written: it is read, and what is read is so written.
 -- Assumes nothing.
-use Rattle.std.specs.Prelude.{◌≡◌, refl, Bool, true, false, List, [], ◌∷◌, ◌++◌, ℕ, suc, ◌+◌, ◌-◌, ◌*◌, ◌^◌, ◌≤◌, eqb, ℤ, pos, neg_ℤ, length, take, drop, if◌then◌else◌}
+use Rattle.std.specs.Prelude.{◌≡◌, refl, Bool, true, false, List, [], ◌∷◌, ◌++◌, ℕ, suc, ◌+◌, ◌-◌, ◌*◌, ◌^◌, ◌≤◌, eqb, ℤ, pos, neg_ℤ, length, take, drop, if◌then◌else◌, Result, Ok, Err}
 use Rattle.std.proofs.Common.{sym, ap, ap₂, ◌∙◌, append-nil, arith, le-leb, eq-eqb, ne_eqb, take_all, take_at}
+use Rattle.refusals.specs.declared.Refusal.{Refusal}
+use Rattle.refusals.specs.declared.Refusal.TheVariants as R
+use Rattle.refusals.specs.Refusal.{number}
 use Rattle.refusals.specs.Tests.{by_test, clash, and_true, and_no}
 use Rattle.numbers.specs.declared.Mark.{Mark}
 use Rattle.numbers.specs.declared.Kind.{Kind}
 use Rattle.numbers.specs.declared.Kind.TheVariants as K
-use Rattle.numbers.specs.declared.Number.TheVariants as N
 use Rattle.numbers.specs.Pieces.{index_of, holds, is_byte}
 use Rattle.numbers.proofs.PieceLaws.{held_within, none_held, holds_append, first_cut, first_is}
 use Rattle.numbers.specs.Number.{named_byte, places, takes_minus, ranged, all_digits, are_digits, value_of, number_of}
@@ -102,14 +104,14 @@ theirs K.Latitude mark s v r = r
 theirs K.Longitude mark s v r = r
 theirs K.Target mark s v r = r
 
-pub ranged_in : (kind : Kind) (v : ℤ) → is_in kind v ≡ true → ranged kind v ≡ N.Value v
+pub ranged_in : (kind : Kind) (v : ℤ) → is_in kind v ≡ true → ranged kind v ≡ Ok v
 ranged_in K.Latitude v e = rw e
 ranged_in K.Longitude v e = rw e
 ranged_in K.Target v e = refl
 
-pub ranged_out : (kind : Kind) (v : ℤ) → is_in kind v ≡ false → ranged kind v ≡ N.Refused (out_of kind)
-ranged_out K.Latitude v e = rw e
-ranged_out K.Longitude v e = rw e
+pub ranged_out : (kind : Kind) (v : ℤ) → is_in kind v ≡ false → (r : Refusal) × (ranged kind v ≡ Err r) × (number r ≡ out_of kind)
+ranged_out K.Latitude v e = (R.Latitude, rw e, refl)
+ranged_out K.Longitude v e = (R.Longitude, rw e, refl)
 ranged_out K.Target v e = clash refl e
 
 module _ (kind : Kind) (mark : Mark) (s : List ℕ) where
@@ -181,11 +183,32 @@ module _ (kind : Kind) (mark : Mark) (s : List ℕ) where
         value = ap (λ (n : ℕ). signed (has_minus kind s) (pos n)) (size ∙ ap (λ (x : ℕ). value_of (before b p) * 10 ^ places kind + x) zeros) ∙ signed_is (has_minus kind s) _;
       })
 
-pub value_one : {v u : ℤ} → N.Value v ≡ N.Value u → v ≡ u
+pub value_one : {v u : ℤ} → ◌≡◌ {A = Result ℤ Refusal} (Ok v) (Ok u) → v ≡ u
 value_one e = cc
 
-pub refused_one : {n m : ℕ} → N.Refused n ≡ N.Refused m → n ≡ m
+pub refused_one : {r q : Refusal} → ◌≡◌ {A = Result ℤ Refusal} (Err r) (Err q) → r ≡ q
 refused_one e = cc
+
+-- 0 is the number of no refusal
+pub number_some : (r : Refusal) → number r ≡ 0 → ⊥
+number_some R.Text e = omega arith
+number_some R.Header e = omega arith
+number_some R.Line e = omega arith
+number_some R.Number e = omega arith
+number_some R.Mark e = omega arith
+number_some R.Latitude e = omega arith
+number_some R.Longitude e = omega arith
+number_some R.Order e = omega arith
+number_some R.Points e = omega arith
+number_some R.Room e = omega arith
+number_some R.Place e = omega arith
+number_some R.Window e = omega arith
+number_some R.Divisor e = omega arith
+number_some R.Meridian e = omega arith
+number_some R.Output e = omega arith
+number_some R.Target e = omega arith
+number_some R.Buffer e = omega arith
+number_some R.Course e = omega arith
 
 -- 4 and 5 are no refusals of a range
 pub not_4 : (kind : Kind) → out_of kind ≡ 4 → ⊥

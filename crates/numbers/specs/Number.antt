@@ -1,16 +1,15 @@
 -- "A number is an optional minus, one to three digits, then nothing or the named mark with one to seven digits."
 -- Said once over the kind of field: how many digits may stand after the mark, whether a minus may stand first, and the range.
 -- Assumes nothing.
-use Rattle.std.specs.Prelude.{Bool, true, false, not, ◌&&◌, ◌||◌, List, [], ◌∷◌, ◌++◌, ℕ, suc, ◌+◌, ◌-◌, ◌*◌, ◌^◌, leb, ℤ, pos, neg_ℤ, length, take, drop, if◌then◌else◌}
-use Rattle.refusals.specs.Refusal.{NUMBER, MARK, LATITUDE, LONGITUDE}
+use Rattle.std.specs.Prelude.{Bool, true, false, not, ◌&&◌, ◌||◌, List, [], ◌∷◌, ◌++◌, ℕ, suc, ◌+◌, ◌-◌, ◌*◌, ◌^◌, leb, ℤ, pos, neg_ℤ, length, take, drop, if◌then◌else◌, Result, Ok, Err}
+use Rattle.refusals.specs.declared.Refusal.{Refusal}
+use Rattle.refusals.specs.declared.Refusal.TheVariants as R
 use Rattle.refusals.specs.Choice.{unless}
 use Rattle.ticks.specs.Ticks.{is_latitude, is_longitude}
 use Rattle.numbers.specs.declared.Mark.{Mark}
 use Rattle.numbers.specs.declared.Mark.TheVariants as M
 use Rattle.numbers.specs.declared.Kind.{Kind}
 use Rattle.numbers.specs.declared.Kind.TheVariants as K
-use Rattle.numbers.specs.declared.Number.{Number}
-use Rattle.numbers.specs.declared.Number.TheVariants as N
 use Rattle.numbers.specs.Pieces.{index_of, holds, is_byte}
 
 -- ---- digits
@@ -44,10 +43,10 @@ takes_minus K.Longitude = true
 takes_minus K.Target = false
 
 -- "then 6 or 7"
-abbrev pub ranged : Kind → ℤ → Number
-ranged K.Latitude v = unless (is_latitude v) (N.Refused LATITUDE) (N.Value v)
-ranged K.Longitude v = unless (is_longitude v) (N.Refused LONGITUDE) (N.Value v)
-ranged K.Target v = N.Value v
+abbrev pub ranged : Kind → ℤ → Result ℤ Refusal
+ranged K.Latitude v = unless (is_latitude v) (Err R.Latitude) (Ok v)
+ranged K.Longitude v = unless (is_longitude v) (Err R.Longitude) (Ok v)
+ranged K.Target v = Ok v
 
 -- ---- the number
 
@@ -65,16 +64,16 @@ other_byte M.Comma = 46
 
 -- without its minus: one to three digits w, "then nothing or the named mark" m "with" digits d. "Decimals are exact: a seventh decimal is a tick, a
 -- target's third is a metre": read on to the last decimal that the kind allows.
-abbrev pub plain_of : Kind → (ℤ → ℤ) → ℕ → List ℕ → Number
+abbrev pub plain_of : Kind → (ℤ → ℤ) → ℕ → List ℕ → Result ℤ Refusal
 plain_of kind sign m s =
     let w = take (index_of m s) s in
     let d = drop (suc (index_of m s)) s in
-    unless (are_digits 3 w && (not (holds m s) || are_digits (places kind) d)) (N.Refused NUMBER)
+    unless (are_digits 3 w && (not (holds m s) || are_digits (places kind) d)) (Err R.Number)
     (ranged kind (sign (pos (value_of (w ++ d) * 10 ^ (places kind - length d)))))
 
 -- "Reading a number answers its value or its refusal": "each 5, 4, then 6 or 7". The other mark anywhere in the field is 5, whatever else is there.
-unfoldable pub number_of : Kind → Mark → List ℕ → Number
+unfoldable pub number_of : Kind → Mark → List ℕ → Result ℤ Refusal
 number_of kind mark s =
-    if holds (other_byte mark) s then N.Refused MARK else
+    if holds (other_byte mark) s then Err R.Mark else
     (if takes_minus kind && is_byte MINUS (take 1 s) then plain_of kind neg_ℤ (named_byte mark) (drop 1 s)
     else plain_of kind (λ z. z) (named_byte mark) s)

@@ -8,9 +8,9 @@ ghost use Rattle.numbers.specs.NumberLaws.{range_refusal, fault_of};
 mod digits;
 pub mod pieces;
 
-use digits::{Amount, plain, with_sign};
+use digits::{plain, with_sign};
 use pieces::{has, starts};
-use refusals::{LATITUDE, LONGITUDE, MARK, NUMBER};
+use refusals::Refusal;
 use ticks::{is_latitude, is_longitude};
 
 // The decimal mark that line 1 names.
@@ -26,13 +26,6 @@ pub enum Kind {
     Latitude,
     Longitude,
     Target,
-}
-
-// In units of the last decimal that its kind allows: ticks, or a target's metres.
-#[derive(Clone, Copy)]
-pub enum Number {
-    Value(i64),
-    Refused(u32),
 }
 
 impl Mark {
@@ -62,8 +55,7 @@ impl Kind {
         ensures { result ≡ places self }
     {
         match self {
-            Kind::Latitude => 7,
-            Kind::Longitude => 7,
+            Kind::Latitude | Kind::Longitude => 7,
             Kind::Target => 3,
         }
     }
@@ -71,50 +63,44 @@ impl Kind {
     fn takes_minus(self) -> bool
         ensures { result ≡ takes_minus self }
     {
-        match self {
-            Kind::Latitude => true,
-            Kind::Longitude => true,
-            Kind::Target => false,
-        }
+        matches!(self, Kind::Latitude | Kind::Longitude)
     }
 
-    // 0 where the value is in range.
-    fn refusal(self, value: i64) -> u32
+    // Whether the value is in range.
+    fn check(self, value: i64) -> Result<(), Refusal>
         ensures { result ≡ range_refusal self value }
     {
         match self {
-            Kind::Latitude => { if is_latitude(value) { 0 } else { LATITUDE } }
-            Kind::Longitude => { if is_longitude(value) { 0 } else { LONGITUDE } }
-            Kind::Target => 0,
+            Kind::Latitude if !is_latitude(value) => Err(Refusal::Latitude),
+            Kind::Longitude if !is_longitude(value) => Err(Refusal::Longitude),
+            _ => Ok(()),
         }
     }
 }
 
 // What is refused of a field that is not a number.
-fn fault(text: &[u8], mark: Mark) -> u32
+fn fault(text: &[u8], mark: Mark) -> Refusal
     ensures { result ≡ fault_of mark text.now }
 {
     if has(text, mark.other()) {
-        MARK
+        Refusal::Mark
     } else {
-        NUMBER
+        Refusal::Number
     }
 }
 
-// The number that a field says. A number holds no other mark, so that is looked for only in a field that is none.
-#[tactic(auto, using(signed::specs::Machine::kept, crate::proofs::NumberLaws::ranged_is, crate::proofs::NumberLaws::plain_small, crate::proofs::NumberLaws::past_within, crate::proofs::NumberLaws::number_value, crate::proofs::NumberLaws::number_fault, crate::proofs::NumberLaws::answered_refused))]
-pub fn read(text: &[u8], kind: Kind, mark: Mark) -> Number
+// The number that a field says, in units of the last decimal that its kind allows: ticks, or a target's metres.
+// A number holds no other mark, so that is looked for only in a field that is none.
+#[tactic(auto, using(signed::specs::Machine::kept, crate::proofs::NumberLaws::ranged_is, crate::proofs::NumberLaws::plain_small, crate::proofs::NumberLaws::number_value, crate::proofs::NumberLaws::number_fault))]
+pub fn read(text: &[u8], kind: Kind, mark: Mark) -> Result<i64, Refusal>
     ensures { result ≡ number_of kind mark text.now }
 {
-    let minus = kind.takes_minus() & starts(text, b'-');
-    let from: usize = if minus { 1 } else { 0 };
-    let Amount::Value(n) = plain(&text[from..], kind, mark) else {
-        return Number::Refused(fault(text, mark));
+    let minus = kind.takes_minus() && starts(text, b'-');
+    let from = usize::from(minus);
+    let Some(n) = plain(&text[from..], kind, mark) else {
+        return Err(fault(text, mark));
     };
     let value = with_sign(minus, n);
-    let refusal = kind.refusal(value);
-    if refusal != 0 {
-        return Number::Refused(refusal);
-    }
-    Number::Value(value)
+    kind.check(value)?;
+    Ok(value)
 }

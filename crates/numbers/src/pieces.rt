@@ -1,26 +1,24 @@
 // Bytes of a text: finding one, and telling what a piece is.
-ghost use Rattle.std.specs.Prelude.{◌≡◌, true, ◌+◌, ◌≤◌, length, take};
+ghost use Rattle.std.specs.Prelude.{◌≡◌, not, ◌≤◌, length, take};
 ghost use Rattle.numbers.specs.Pieces.{index_of, holds, is_byte, same};
-ghost use Rattle.numbers.specs.PieceLaws.{stride, NoneBefore};
+ghost use Rattle.numbers.specs.PieceLaws.{NoneBefore};
 
-pub const LF: u8 = 10;
+pub const LF: u8 = b'\n';
 
-pub const TAB: u8 = 9;
+pub const TAB: u8 = b'\t';
 
 // So many bytes are looked at together: the compiler then compares them at once.
+// Kept: `position` alone takes half as long again over the lines and the fields of a route.
 const STRIDE: usize = 8;
 
-// No `b` stands in the stride from `i` on.
-fn lacks(s: &[u8], b: u8, i: usize) -> bool
-    requires stride_in_bounds { i + stride ≤ length s.now }
-    requires none_before { NoneBefore b s.now i }
-    ensures { result ≡ true → NoneBefore b s.now (i + stride) }
+// No `b` stands in the stride. All of it is looked at, since the compiler compares no bytes at once where the loop may end early.
+#[tactic(auto, using(crate::proofs::PieceLaws::holds_more))]
+fn lacks(stride: &[u8; STRIDE], b: u8) -> bool
+    ensures { result ≡ not (holds b stride.now) }
 {
     let mut none = true;
-    let mut k = 0;
-    while k < STRIDE {
-        none = none & (s[i + k] != b);
-        k += 1;
+    for x in stride {
+        none &= *x != b;
     }
     none
 }
@@ -29,14 +27,12 @@ fn lacks(s: &[u8], b: u8, i: usize) -> bool
 fn skip(s: &[u8], b: u8) -> usize
     ensures { NoneBefore b s.now result }
 {
-    let mut i = 0;
-    while STRIDE <= s.len() - i {
-        if !lacks(s, b, i) {
-            return i;
-        }
-        i += STRIDE;
-    }
-    i
+    let (strides, _) = s.as_chunks::<STRIDE>();
+    strides
+        .iter()
+        .position(|stride| !lacks(stride, b))
+        .unwrap_or(strides.len())
+        * STRIDE
 }
 
 // The place of the first `b`, or the length where there is none.
@@ -44,59 +40,38 @@ pub fn find(s: &[u8], b: u8) -> usize
     ensures place { result ≡ index_of b s.now }
     ensures within { result ≤ length s.now }
 {
-    let mut i = skip(s, b);
-    while i < s.len() {
-        if s[i] == b {
-            return i;
-        }
-        i += 1;
-    }
-    i
+    let from = skip(s, b);
+    let rest = &s[from..];
+    from + rest.iter().position(|x| *x == b).unwrap_or(rest.len())
 }
 
 // `b` stands anywhere.
-#[tactic(auto, using(crate::proofs::PieceLaws::holds_index))]
+#[tactic(auto, using(crate::proofs::PieceLaws::holds_any))]
 pub fn has(s: &[u8], b: u8) -> bool
     ensures { result ≡ holds b s.now }
 {
-    find(s, b) < s.len()
+    s.contains(&b)
 }
 
 // The first byte is `b`.
 pub(crate) fn starts(s: &[u8], b: u8) -> bool
     ensures { result ≡ is_byte b (take 1 s.now) }
 {
-    if s.len() == 0 {
-        return false;
-    }
-    s[0] == b
+    s.first() == Some(&b)
 }
 
 // The one byte is `b`.
-#[tactic(auto, using(crate::proofs::PieceLaws::byte_one, crate::proofs::PieceLaws::byte_other))]
+#[tactic(auto, using(crate::proofs::PieceLaws::byte_other))]
 pub fn is_byte(s: &[u8], b: u8) -> bool
     ensures { result ≡ is_byte b s.now }
 {
-    if s.len() != 1 {
-        return false;
-    }
-    s[0] == b
+    matches!(s, [x] if *x == b)
 }
 
 // Byte by byte.
-#[tactic(auto, using(crate::proofs::PieceLaws::same_next, crate::proofs::PieceLaws::same_stop, crate::proofs::PieceLaws::same_end, crate::proofs::PieceLaws::same_long))]
+#[tactic(auto, using(crate::proofs::PieceLaws::same_pointwise))]
 pub fn equal(a: &[u8], b: &[u8]) -> bool
     ensures { result ≡ same a.now b.now }
 {
-    if a.len() != b.len() {
-        return false;
-    }
-    let mut i = 0;
-    while i < a.len() {
-        if a[i] != b[i] {
-            return false;
-        }
-        i += 1;
-    }
-    true
+    a == b
 }

@@ -8,6 +8,7 @@ use Rattle.std.proofs.lemmas.List.Edits.{sets}
 use Rattle.std.proofs.Math.Seq.{length-sets}
 use Rattle.std.specs.Int.Signed.{lt_z}
 use Rattle.refusals.specs.Tests.{by_test, clash}
+use Rattle.numbers.specs.declared.Mark.{Mark}
 use Rattle.numbers.specs.declared.Kind.{Kind}
 use Rattle.numbers.specs.declared.Kind.TheVariants as K
 use Rattle.numerals.specs.declared.digits.Digits.{Digits}
@@ -15,8 +16,9 @@ use Rattle.numerals.specs.declared.digits.Parts.{Parts}
 use Rattle.numbers.specs.Number.{named_byte, places}
 use Rattle.numerals.specs.Numeral.{digits, width, whole_of, decimals_of, minus_of, numeral_of}
 use Rattle.numerals.proofs.Stands.{sets_append}
-use Rattle.numerals.proofs.NumeralLaws.{digits_most, digits_full, digits_some, width_some, width_least, width_holds}
-use Rattle.numerals.specs.NumeralSteps.{most, topmost, Lifted, Shorn, sign_text, marked_text, parts_text, Parted}
+use Rattle.numerals.proofs.NumeralLaws.{digits_full, digits_some, width_some, width_least, width_holds}
+use Rattle.numerals.specs.NumeralSteps.{most, topmost, Lifted, Shorn, sign_text}
+use Rattle.numerals.specs.PartsText.{marked_text, parts_text}
 
 -- ---- a number lifted
 
@@ -227,19 +229,10 @@ module _ (n c x : ℕ) (h : n < 10 ^ most) (e : c ≡ width most n) (f : x ≡ n
   whole_few : c ≤ most
   whole_few = omega (arith, e, width_least most n most (lit≤ tt) h)
 
-  whole_small : x < 10 ^ most
-  whole_small = rw f (lifted_below c n whole_few (rw e (width_holds most n h)))
-
   whole_text : topmost c x ≡ whole_of n
   whole_text = rw (f, e, width_most n h) (sym (digits_topmost false (width most n) n (rw e at whole_few) (width_holds most n h) ∙ rw (digits_full (width most n) n)))
 
 module _ (p n c x : ℕ) (few : p ≤ most) (h : n < 10 ^ p) (e : c ≡ length (digits true p n)) (f : x ≡ n * 10 ^ (most - p)) where
-  decimals_few : c ≤ most
-  decimals_few = omega (arith, e, digits_most true p n)
-
-  decimals_small : x < 10 ^ most
-  decimals_small = rw f (lifted_below p n few h)
-
   decimals_text : (m : ℕ) → (if eqb c 0 then [] else m ∷ topmost c x) ≡ decimals_of p m n
   decimals_text m =
       by_test (eqb n 0)
@@ -283,18 +276,11 @@ module _ (kind : Kind) (n q r : ℕ) where
       → p.minus ≡ lt_z v (pos 0)
       → (p.whole.count ≡ width most q) × (p.whole.value ≡ q * 10 ^ (most - p.whole.count))
       → (p.decimals.count ≡ length (digits true most r)) × (p.decimals.value ≡ r)
-      → Parted kind v p
+      → (mark : Mark) → parts_text p (named_byte mark) ≡ numeral_of kind mark v
   unfolding numeral_of
-  parted v p size fits left right minus w d =
+  parted v p size fits left right minus w d mark =
       let h = left_small fits left in
-      let few = places_few kind in
       let count = d.0 ∙ shown_few right in
       let value = d.1 ∙ right in
-      record {
-        wholes = whole_few q _ _ h w.0 w.1;
-        whole_below = whole_small q _ _ h w.0 w.1;
-        shown = decimals_few (places kind) rest _ _ few rest_small count value;
-        decimals_below = decimals_small (places kind) rest _ _ few rest_small count value;
-        text = λ mark.
-            rw (size, ← left, minus_text v _ minus, whole_text q _ _ h w.0 w.1, decimals_text (places kind) rest _ _ few rest_small count value (named_byte mark));
-      }
+      let decimals = decimals_text (places kind) rest _ _ (places_few kind) rest_small count value (named_byte mark) in
+      rw (size, ← left, minus_text v _ minus, whole_text q _ _ h w.0 w.1, decimals)

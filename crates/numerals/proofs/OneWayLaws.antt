@@ -1,6 +1,6 @@
 -- Laws of a number that is written: it is read back as it was, how long it is, which bytes it does not hold, and that it alone keeps the rules.
 -- Assumes nothing.
-use Rattle.std.specs.Prelude.{◌≡◌, refl, Bool, leb, eqb, ℤ, pos, negsuc, neg_ℤ, nat_abs, length, if◌then◌else◌}
+use Rattle.std.specs.Prelude.{◌≡◌, refl, Bool, leb, eqb, ℤ, pos, negsuc, neg_ℤ, nat_abs, length, if◌then◌else◌, Ok}
 use Rattle.std.proofs.Common.{sym, ap, ◌∙◌, zero-mul, mul-le-mul, mul-le-mul_right, mod-eq_of_lt, div-add-mod', le-div_iff_mul-le, div-lt_iff_lt-mul, lt_of_lt_of_le, arith, lit<, length-append, pow-add, leb-true, leb-false, le-leb, eqb-true, ne_eqb}
 use Rattle.std.proofs.Math.Bool.{true, false}
 use mathlib.Core.List.{List, [], ◌∷◌, ◌++◌, append_assoc, nil≢cons, head-eq_of_cons-eq, tail-eq_of_cons-eq}
@@ -14,7 +14,6 @@ use Rattle.numbers.specs.declared.Mark.{Mark}
 use Rattle.numbers.specs.declared.Mark.TheVariants as M
 use Rattle.numbers.specs.declared.Kind.{Kind}
 use Rattle.numbers.specs.declared.Kind.TheVariants as K
-use Rattle.numbers.specs.declared.Number.TheVariants as N
 use Rattle.numbers.specs.Pieces.{holds}
 use Rattle.numbers.proofs.PieceLaws.{holds_append, holds_there}
 use Rattle.numbers.specs.Number.{MINUS, named_byte, places, takes_minus, all_digits, value_of, number_of}
@@ -353,7 +352,7 @@ module _ (kind : Kind) (mark : Mark) where
   numeral_written (negsuc n) e = theirs kind mark _ _ (unsigned_written kind mark (suc n) (fits_size kind (negsuc n) e) true (λ u. fits_minus kind n e))
 
   -- what was written is read
-  pub numeral_back : (v : ℤ) → fits kind v ≡ true → number_of kind mark (numeral_of kind mark v) ≡ N.Value v
+  pub numeral_back : (v : ℤ) → fits kind v ≡ true → number_of kind mark (numeral_of kind mark v) ≡ Ok v
   numeral_back v e =
       let s = numeral_of kind mark v in
       written_read kind mark s (ours kind mark s v (numeral_written v e)) ∙ ranged_in kind v (fits_in kind v e)

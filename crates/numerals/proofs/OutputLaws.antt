@@ -1,35 +1,37 @@
 -- A text that goes into a lent output, said once for every text that is written: the ways out, and what stands where afterwards.
 -- Assumes nothing.
-use Rattle.std.specs.Prelude.{◌≡◌, refl, List, ◌++◌, ℕ, zero, suc, ◌+◌, ◌-◌, ◌≤◌, ◌<◌, leb, length, take, drop}
-use Rattle.std.proofs.Common.{◌∙◌, append_assoc, arith, length-append, length-drop, length-take-le, take_at, drop_at}
+use Rattle.std.specs.Prelude.{◌≡◌, refl, List, ◌++◌, ℕ, ◌+◌, ◌-◌, ◌≤◌, ◌<◌, leb, length, take, drop, Ok, Err}
+use Rattle.std.proofs.Common.{sym, ◌∙◌, append_assoc, arith, length-append, length-drop, length-take-le, take_at, drop_at}
 use borrow.Author.Tests.{le-leb, lt-leb, leb-true, leb-false}
 use Rattle.std.proofs.lemmas.List.Edits.{sets, sets-eq}
-use Rattle.refusals.specs.Refusal.{OUTPUT}
+use Rattle.refusals.specs.declared.Refusal.{Refusal}
+use Rattle.refusals.specs.declared.Refusal.TheVariants as R
+use Rattle.refusals.specs.Refusal.{number}
+use Rattle.refusals.specs.Choice.{Check, fine}
 use Rattle.refusals.specs.Tests.{by_test}
 use Rattle.numerals.specs.declared.WritingOut.{WritingOut}
-use Rattle.numerals.specs.declared.Writing.TheVariants as W
+use Rattle.numbers.proofs.WrittenLaws.{number_some}
 use Rattle.numerals.specs.Output.{writing_of, output_of}
 use Rattle.numerals.specs.Paper.{writing_paper}
 
 -- ---- the ways out
 
 -- by what refuses the text itself
-pub text_refused : (n : ℕ) (text : List ℕ) (place : ℕ) (out : List ℕ) → 0 < n → writing_of n text place out ≡ W.Refused n
+pub text_refused : (r : Refusal) (text : List ℕ) (place : ℕ) (out : List ℕ) → writing_of (Err r) text place out ≡ Err r
 unfolding writing_of
-text_refused zero text place out h = absurd (omega arith)
-text_refused (suc n) text place out h = refl
+text_refused r text place out = refl
 
-module _ (n : ℕ) (text : List ℕ) (place : ℕ) (out : List ℕ) where
-  pub output_kept : {m : ℕ} → writing_of n text place out ≡ W.Refused m → output_of n text place out ≡ out
+module _ (n : Check) (text : List ℕ) (place : ℕ) (out : List ℕ) where
+  pub output_kept : {r : Refusal} → writing_of n text place out ≡ Err r → output_of n text place out ≡ out
   unfolding output_of
   output_kept e = rw e
 
-  module _ (z : n ≡ 0) where
-    pub room_refused : length out - place < length text → writing_of n text place out ≡ W.Refused OUTPUT
+  module _ (z : n ≡ fine) where
+    pub room_refused : length out - place < length text → writing_of n text place out ≡ Err R.Output
     unfolding writing_of
     room_refused h = rw (z, lt-leb (length text) (length out - place) h)
 
-    pub text_written : length text ≤ length out - place → writing_of n text place out ≡ W.Bytes (length text)
+    pub text_written : length text ≤ length out - place → writing_of n text place out ≡ Ok (length text)
     unfolding writing_of
     text_written h = rw (z, le-leb (length text) (length out - place) h)
 
@@ -63,24 +65,24 @@ pub record Placed (text : List ℕ) (place : ℕ) (out : List ℕ) (answer : Wri
   pub as_long : length left ≡ length out
 
 -- n comes first, then 15; no case is another
-pub data Outcome (n : ℕ) (text : List ℕ) (place : ℕ) (out : List ℕ) (answer : WritingOut) (left : List ℕ) : Type 0 where
-  refused : 0 < n → Kept n out answer left → Outcome n text place out answer left
+pub data Outcome (n : Check) (text : List ℕ) (place : ℕ) (out : List ℕ) (answer : WritingOut) (left : List ℕ) : Type 0 where
+  refused : {r : Refusal} → n ≡ Err r → Kept (number r) out answer left → Outcome n text place out answer left
   -- "the output from that place on is too short (a place past its end leaves none)"
-  short : n ≡ 0 → length out - place < length text → Kept 15 out answer left → Outcome n text place out answer left
-  written : n ≡ 0 → length text ≤ length out - place → Placed text place out answer left → Outcome n text place out answer left
+  short : n ≡ fine → length out - place < length text → Kept 15 out answer left → Outcome n text place out answer left
+  written : n ≡ fine → length text ≤ length out - place → Placed text place out answer left → Outcome n text place out answer left
 
-kept : (n m : ℕ) (text : List ℕ) (place : ℕ) (out : List ℕ) → writing_of n text place out ≡ W.Refused m
-    → Kept m out (writing_paper (writing_of n text place out)) (output_of n text place out)
-kept n m text place out e = rw e (record { number = refl; bytes = refl; as_it_was = output_kept n text place out e })
+kept : (n : Check) (r : Refusal) (text : List ℕ) (place : ℕ) (out : List ℕ) → writing_of n text place out ≡ Err r
+    → Kept (number r) out (writing_paper (writing_of n text place out)) (output_of n text place out)
+kept n r text place out e = rw e (record { number = refl; bytes = refl; as_it_was = output_kept n text place out e })
 
 -- of a text that has bytes
 module _ (text : List ℕ) (place : ℕ) (out : List ℕ) (some : 0 < length text) where
-  placed : length text ≤ length out - place → Placed text place out (writing_paper (writing_of 0 text place out)) (output_of 0 text place out)
+  placed : length text ≤ length out - place → Placed text place out (writing_paper (writing_of fine text place out)) (output_of fine text place out)
   placed h =
       let front = take place out in
       let rest = drop (place + length text) out in
       let as-far = length-take-le place out (omega arith) in
-      rw (text_written 0 text place out refl h, output_parts 0 text place out refl h)
+      rw (text_written fine text place out refl h, output_parts fine text place out refl h)
       (record {
         number = refl;
         bytes = refl;
@@ -91,16 +93,18 @@ module _ (text : List ℕ) (place : ℕ) (out : List ℕ) (some : 0 < length tex
         as_long = simp (length-append, length-drop) (omega (arith, as-far));
       })
 
-  pub outcome : (n : ℕ) → Outcome n text place out (writing_paper (writing_of n text place out)) (output_of n text place out)
-  outcome zero =
+  pub outcome : (n : Check) → Outcome n text place out (writing_paper (writing_of n text place out)) (output_of n text place out)
+  outcome (Ok tt) =
       by_test (leb (length text) (length out - place))
       (λ t. let h = leb-true (length text) (length out - place) t in written refl h (placed h))
-      (λ t. let h = leb-false (length text) (length out - place) t in short refl h (kept 0 15 text place out (room_refused 0 text place out refl h)))
-  outcome (suc n) = refused (omega arith) (kept (suc n) (suc n) text place out (text_refused (suc n) text place out (omega arith)))
+      (λ t.
+      let h = leb-false (length text) (length out - place) t in
+      short refl h (kept fine R.Output text place out (room_refused fine text place out refl h)))
+  outcome (Err r) = refused refl (kept (Err r) r text place out (text_refused r text place out))
 
 -- nothing is refused
-pub not_refused : {n : ℕ} {text : List ℕ} {place : ℕ} {out : List ℕ} {answer : WritingOut} {left : List ℕ} → Outcome n text place out answer left
-    → answer.refusal ≡ 0 → (n ≡ 0) × Placed text place out answer left
-not_refused (refused h k) e = absurd (omega (arith, k.number))
+pub not_refused : {n : Check} {text : List ℕ} {place : ℕ} {out : List ℕ} {answer : WritingOut} {left : List ℕ} → Outcome n text place out answer left
+    → answer.refusal ≡ 0 → (n ≡ fine) × Placed text place out answer left
+not_refused (refused {r} h k) e = absurd (number_some r (sym k.number ∙ e))
 not_refused (short z h k) e = absurd (omega (arith, k.number))
 not_refused (written z h p) e = (z, p)

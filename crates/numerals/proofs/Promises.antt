@@ -8,7 +8,7 @@ use Rattle.std.proofs.Math.IntN.{nat_abs}
 use Rattle.numbers.specs.declared.Mark.{Mark}
 use Rattle.numbers.specs.declared.Kind.{Kind}
 use Rattle.numbers.specs.Number.{number_of}
-use Rattle.numbers.proofs.NumberLaws.{number_size, number_says}
+use Rattle.numbers.proofs.NumberLaws.{number_size}
 use Rattle.numbers.specs.Paper.{NumberPaper, number_paper}
 use Rattle.numbers.proofs.WrittenLaws.{ours}
 use Rattle.numbers.proofs.Promises.{paper, accepted, number_only, value_in_range}
@@ -30,7 +30,7 @@ module _ (kind : Kind) (mark : Mark) where
   -- no other value is read
   pub value_fits : (s : List ℕ) → (paper kind mark s).refusal ≡ 0 → fits kind (paper kind mark s).value ≡ true
   value_fits s e =
-      let q = accepted (number_of kind mark s) (number_says kind mark s) e in
+      let q = accepted (number_of kind mark s) e in
       number_fits kind mark s _ (number_only kind mark s e) (value_in_range kind mark s e) (number_size kind mark s _ q)
 
   -- and no other text that keeps the rules reads as that value

@@ -1,7 +1,7 @@
 -- Laws of writing forwards into a lent output: bytes one after the other, and those that are written into a part of it.
 -- Assumes nothing.
 use Rattle.std.specs.Prelude.{◌≡◌, refl, List, [], ◌∷◌, ◌++◌, ℕ, suc, ◌+◌, ◌-◌, ◌≤◌, length, take, drop, set}
-use Rattle.std.proofs.Common.{sym, ap, ◌∙◌, append-nil, append_assoc, zero-add, add-zero, add-suc, suc-add, le_of_eq, arith, length-append, length-drop, drop_of_length-le, take_all, drop-drop}
+use Rattle.std.proofs.Common.{sym, ap, ◌∙◌, append-nil, append_assoc, zero-add, add-zero, add-suc, suc-add, le_of_eq, arith, length-append, length-drop, length-take-le, drop_of_length-le, take_all, drop-drop}
 use Rattle.std.proofs.lemmas.List.Edits.{sets, sets-eq}
 use Rattle.std.proofs.Math.Seq.{length-sets}
 
@@ -33,6 +33,18 @@ sets_lent a l vs h =
     let part : sets d 0 vs ≡ vs ++ drop (length vs) d = sets-eq vs d 0 (omega (arith, length-drop a l)) ∙ rw zero-add in
     rw (lent_drop a l, none, append-nil (sets d 0 vs), part, drop-drop (length vs) a l)
     (sym (append_assoc (take a l) vs (drop (a + length vs) l)) ∙ sym (sets-eq vs l a h))
+
+-- stores into all of the lent part `&mut l[a..a + n]` are stores into the whole
+pub sets_part : (a n : ℕ) (l vs part : List ℕ) → a + n ≤ length l → length vs ≡ n → part ≡ sets (take n (drop a l)) 0 vs
+    → take a l ++ (part ++ drop n (drop a l)) ≡ sets l a vs
+sets_part a n l vs part h e f =
+    let middle = take n (drop a l) in
+    let long : length middle ≡ n = length-take-le n (drop a l) (omega (arith, length-drop a l)) in
+    let none : drop (0 + length vs) middle ≡ [] = drop_of_length-le middle (omega (arith, long)) in
+    let all : part ≡ vs = f ∙ sets-eq vs middle 0 (omega (arith, long)) ∙ rw none (append-nil vs) in
+    rw (all, drop-drop n a l)
+    (sym (append_assoc (take a l) vs (drop (a + n) l)) ∙ ap (λ (x : ℕ). take a l ++ vs ++ drop (a + x) l) (sym e) ∙
+    sym (sets-eq vs l a (omega arith)))
 
 -- ---- writing forwards
 

@@ -12,3 +12,8 @@ size = answers (λ κs a v w. refl)
 
 pub write : One contracts.write.ended numerals.write.Reads.Asked numerals.write.Reads.Learnt
 write = leaves (λ κs a v w p. ap (λ (l : List ℕ). (tt, (tt, (tt, (l, tt))))) p)
+
+pub from : One contracts.WritingOutFromResultUsizeRefusal.from.ended
+    numerals.WritingOutFromResultUsizeRefusal.from.Reads.Asked
+    numerals.WritingOutFromResultUsizeRefusal.from.Reads.Learnt
+from = answers (λ κs a v w. refl)

@@ -3,3 +3,4 @@ pub mod NumeralSteps
 pub mod OneWay
 pub mod Output
 pub mod Paper
+pub mod PartsText

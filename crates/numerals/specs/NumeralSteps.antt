@@ -1,12 +1,8 @@
 -- Digits as code works them out: as the first ones of seven, the next one first, and how many of them are written.
 -- Assumes nothing.
-use Rattle.std.specs.Prelude.{◌≡◌, Bool, true, List, [], ◌∷◌, ◌++◌, ℕ, zero, suc, ◌+◌, ◌-◌, ◌*◌, ◌/◌, ◌%◌, ◌^◌, ◌≤◌, ◌<◌, eqb, ℤ, length, if◌then◌else◌}
-use Rattle.numbers.specs.declared.Mark.{Mark}
-use Rattle.numbers.specs.declared.Kind.{Kind}
-use Rattle.numerals.specs.declared.digits.Digits.{Digits}
-use Rattle.numerals.specs.declared.digits.Parts.{Parts}
-use Rattle.numbers.specs.Number.{MINUS, named_byte}
-use Rattle.numerals.specs.Numeral.{digits, numeral_of}
+use Rattle.std.specs.Prelude.{◌≡◌, Bool, true, List, [], ◌∷◌, ℕ, zero, suc, ◌+◌, ◌-◌, ◌*◌, ◌/◌, ◌%◌, ◌^◌, ◌≤◌, ◌<◌, length, if◌then◌else◌}
+use Rattle.numbers.specs.Number.{MINUS}
+use Rattle.numerals.specs.Numeral.{digits}
 
 -- a value of 32 bits has no more digits on either side of the mark
 abbrev pub most : ℕ
@@ -31,22 +27,5 @@ pub record Shorn (p m k n : ℕ) : Type 0 where
   pub below : n < 10 ^ k
   pub same : length (digits true k n) ≡ length (digits true p m)
 
--- ---- the text by its parts
-
 abbrev pub sign_text : Bool → List ℕ
 sign_text minus = if minus then MINUS ∷ [] else []
-
--- with the mark m; no decimals have no mark
-abbrev pub marked_text : Digits → ℕ → List ℕ
-marked_text d m = if eqb d.count 0 then [] else m ∷ topmost d.count d.value
-
-abbrev pub parts_text : Parts → ℕ → List ℕ
-parts_text p m = sign_text p.minus ++ (topmost p.whole.count p.whole.value ++ marked_text p.decimals m)
-
--- the parts of v, with so few digits and so small that the machine holds them
-pub record Parted (kind : Kind) (v : ℤ) (p : Parts) : Type 0 where
-  pub wholes : p.whole.count ≤ most
-  pub whole_below : p.whole.value < 10 ^ most
-  pub shown : p.decimals.count ≤ most
-  pub decimals_below : p.decimals.value < 10 ^ most
-  pub text : (mark : Mark) → parts_text p (named_byte mark) ≡ numeral_of kind mark v

@@ -1,9 +1,10 @@
 // The text of a value by its parts: how many digits stand before and after the mark, and the bytes of them all.
 ghost use Rattle.std.specs.Prelude.{◌≡◌, true, ◌+◌, ◌-◌, ◌*◌, ◌/◌, ◌%◌, ◌^◌, ◌≤◌, ◌<◌, length};
 ghost use Rattle.std.proofs.lemmas.List.Edits.{sets};
-ghost use Rattle.numbers.specs.Number.{places};
-ghost use Rattle.numerals.specs.Numeral.{digits, width};
-ghost use Rattle.numerals.specs.NumeralSteps.{most, topmost, sign_text, marked_text, parts_text, Parted};
+ghost use Rattle.numbers.specs.declared.Mark.{Mark};
+ghost use Rattle.numbers.specs.Number.{places, named_byte};
+ghost use Rattle.numerals.specs.Numeral.{digits, width, numeral_of};
+ghost use Rattle.numerals.specs.NumeralSteps.{most, topmost, sign_text};
 
 use numbers::Kind;
 use signed::size32;
@@ -16,10 +17,13 @@ const FIRST: u64 = 1_000_000;
 const MORE: u64 = 10_000_000;
 
 // How many digits are written, the first ones of `MOST` that make the value.
+// Kept: `numbers::digits::Digits` has these fields too, but its value is what the digits make, and making that type public for this is no plainer.
 #[derive(Clone, Copy)]
 pub(crate) struct Digits {
     pub count: usize,
     pub value: u64,
+    ghost few: { count ≤ most },
+    ghost below: { value < 10 ^ most },
 }
 
 // What stands before the mark and after it.
@@ -30,40 +34,64 @@ pub(crate) struct Parts {
     pub decimals: Digits,
 }
 
-// All digits of `n`, and no zero before them but a lone one.
-fn whole(n: u64) -> Digits
-    requires { n < 10 ^ most }
-    ensures many { result.count ≡ width most n }
-    ensures lifted { result.value ≡ n * 10 ^ (most - result.count) }
-{
-    let mut value = n * FIRST;
-    let mut count = 1;
-    while MORE <= value {
-        value = value / 10;
-        count += 1;
-    }
-    Digits {
-        count: count,
-        value: value,
-    }
-}
+impl Digits {
+    ghost use Rattle.numerals.specs.PartsText.{marked_text};
 
-// The digits of `n`, up to the last that is not 0.
-#[tactic(auto, using(crate::proofs::NumeralSteps::shorn_off))]
-fn shorn(n: u64) -> Digits
-    requires { n < 10 ^ most }
-    ensures many { result.count ≡ length (digits true most n) }
-    ensures same { result.value ≡ n }
-{
-    let mut rest = n;
-    let mut count = MOST;
-    while (0 < count) & (rest % 10 == 0) {
-        rest = rest / 10;
-        count -= 1;
+    // All digits of `n`, and no zero before them but a lone one.
+    // Kept: `checked_ilog10` and `pow` take twice as long.
+    fn whole(n: u64) -> Self
+        requires { n < 10 ^ most }
+        ensures many { result.count ≡ width most n }
+        ensures lifted { result.value ≡ n * 10 ^ (most - result.count) }
+    {
+        let mut value = n * FIRST;
+        let mut count = 1;
+        while MORE <= value {
+            value /= 10;
+            count += 1;
+        }
+        Digits { count, value }
     }
-    Digits {
-        count: count,
-        value: n,
+
+    // The digits of `n`, up to the last that is not 0.
+    // Kept: std counts no digits at the end, and no index runs here: the loop ends by the number.
+    #[tactic(auto, using(crate::proofs::NumeralSteps::shorn_on, crate::proofs::NumeralSteps::shorn_off))]
+    fn shorn(n: u64) -> Self
+        requires { n < 10 ^ most }
+        ensures many { result.count ≡ length (digits true most n) }
+        ensures same { result.value ≡ n }
+    {
+        let mut rest = n;
+        let mut count = MOST;
+        while 0 < count && rest % 10 == 0 {
+            rest /= 10;
+            count -= 1;
+        }
+        Digits { count, value: n }
+    }
+
+    // From the left, onto the place `at` and those after it.
+    fn put(self, out: &mut [u8], at: usize)
+        requires { at + self.count ≤ length out.old }
+        ensures { out.new ≡ sets out.old at (topmost self.count self.value) }
+    {
+        let mut rest = self.value;
+        for byte in &mut out[at..at + self.count] {
+            *byte = b'0' + ((rest / FIRST) as u8);
+            rest = rest % FIRST * 10;
+        }
+    }
+
+    // Behind the mark; no decimals have no mark.
+    fn put_marked(self, out: &mut [u8], at: usize, mark: u8)
+        requires { at + length (marked_text self mark) ≤ length out.old }
+        ensures { out.new ≡ sets out.old at (marked_text self mark) }
+    {
+        if self.count == 0 {
+            return;
+        }
+        out[at] = mark;
+        self.put(out, at + 1);
     }
 }
 
@@ -72,8 +100,7 @@ fn before_mark(n: u64, kind: Kind) -> u64
     ensures { result ≡ n / 10 ^ places kind }
 {
     match kind {
-        Kind::Latitude => n / 10_000_000,
-        Kind::Longitude => n / 10_000_000,
+        Kind::Latitude | Kind::Longitude => n / 10_000_000,
         Kind::Target => n / 1_000,
     }
 }
@@ -83,49 +110,8 @@ fn after_mark(n: u64, kind: Kind) -> u64
     ensures { result ≡ n % 10 ^ places kind * 10 ^ (most - places kind) }
 {
     match kind {
-        Kind::Latitude => n % 10_000_000,
-        Kind::Longitude => n % 10_000_000,
+        Kind::Latitude | Kind::Longitude => n % 10_000_000,
         Kind::Target => n % 1_000 * 10_000,
-    }
-}
-
-pub(crate) fn cut(value: i32, kind: Kind) -> Parts
-    ensures { Parted kind value result }
-{
-    let n = size32(value) as u64;
-    Parts {
-        minus: value < 0,
-        whole: whole(before_mark(n, kind)),
-        decimals: shorn(after_mark(n, kind)),
-    }
-}
-
-// How many bytes they are.
-#[tactic(auto, using(crate::proofs::NumeralSteps::parts_added))]
-pub(crate) fn bytes(parts: Parts) -> usize
-    requires count_le_most { parts.whole.count ≤ most }
-    requires count_le_most_2 { parts.decimals.count ≤ most }
-    ensures { result ≡ length (parts_text parts 0) }
-{
-    let sign = if parts.minus { 1 } else { 0 };
-    let decimals = parts.decimals.count;
-    let marked = if decimals == 0 { 0 } else { 1 + decimals };
-    sign + parts.whole.count + marked
-}
-
-// Digits from the left, from the place `at` on.
-fn put_digits(out: &mut [u8], at: usize, digits: Digits)
-    requires value_bound { digits.value < 10 ^ most }
-    requires count_in_bounds { at + digits.count ≤ length out.old }
-    ensures { out.new ≡ sets out.old at (topmost digits.count digits.value) }
-{
-    let count = digits.count;
-    let mut rest = digits.value;
-    let mut i = 0;
-    while i < count {
-        out[at + i] = b'0' + ((rest / FIRST) as u8);
-        rest = rest % FIRST * 10;
-        i += 1;
     }
 }
 
@@ -142,28 +128,40 @@ fn put_sign(out: &mut [u8], minus: bool) -> usize
     0
 }
 
-// The mark and what stands after it; no decimals have no mark.
-fn put_decimals(out: &mut [u8], at: usize, decimals: Digits, mark: u8)
-    requires value_bound { decimals.value < 10 ^ most }
-    requires mark_in_bounds { at + length (marked_text decimals mark) ≤ length out.old }
-    ensures { out.new ≡ sets out.old at (marked_text decimals mark) }
-{
-    if decimals.count == 0 {
-        return;
-    }
-    out[at] = mark;
-    put_digits(out, at + 1, decimals);
-}
+impl Parts {
+    ghost use Rattle.numerals.specs.PartsText.{parts_text};
 
-#[tactic(auto, using(crate::proofs::NumeralSteps::parts_length, crate::proofs::NumeralSteps::after_all))]
-pub(crate) fn put(out: &mut [u8], parts: Parts, mark: u8)
-    requires value_bound { parts.whole.value < 10 ^ most }
-    requires value_bound_2 { parts.decimals.value < 10 ^ most }
-    requires mark_in_bounds { length (parts_text parts mark) ≤ length out.old }
-    ensures { out.new ≡ sets out.old 0 (parts_text parts mark) }
-{
-    let whole = parts.whole;
-    let at = put_sign(out, parts.minus);
-    put_digits(out, at, whole);
-    put_decimals(out, at + whole.count, parts.decimals, mark);
+    // What the text of a value is made of, under either mark.
+    pub(crate) fn cut(value: i32, kind: Kind) -> Self
+        ensures { (mark : Mark) → parts_text result (named_byte mark) ≡ numeral_of kind mark value }
+    {
+        let n = u64::from(size32(value));
+        Parts {
+            minus: value < 0,
+            whole: Digits::whole(before_mark(n, kind)),
+            decimals: Digits::shorn(after_mark(n, kind)),
+        }
+    }
+
+    // How many bytes they are.
+    #[tactic(auto, using(crate::proofs::NumeralSteps::parts_added))]
+    pub(crate) fn bytes(self) -> usize
+        ensures { result ≡ length (parts_text self 0) }
+    {
+        let sign = usize::from(self.minus);
+        let decimals = self.decimals.count;
+        let marked = if decimals == 0 { 0 } else { 1 + decimals };
+        sign + self.whole.count + marked
+    }
+
+    #[tactic(auto, using(crate::proofs::NumeralSteps::parts_length, crate::proofs::NumeralSteps::after_all))]
+    pub(crate) fn put(self, out: &mut [u8], mark: u8)
+        requires { length (parts_text self mark) ≤ length out.old }
+        ensures { out.new ≡ sets out.old 0 (parts_text self mark) }
+    {
+        let whole = self.whole;
+        let at = put_sign(out, self.minus);
+        whole.put(out, at);
+        self.decimals.put_marked(out, at + whole.count, mark);
+    }
 }

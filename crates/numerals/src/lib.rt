@@ -4,20 +4,15 @@
 ghost use Rattle.std.specs.Prelude.{◌≡◌, length};
 ghost use Rattle.numbers.specs.declared.Mark.TheVariants as M;
 ghost use Rattle.numerals.specs.Numeral.{numeral_of};
+ghost use Rattle.refusals.specs.Choice.{fine};
 ghost use Rattle.numerals.specs.Output.{writing_of, output_of};
+ghost use Rattle.numerals.specs.Paper.{writing_paper};
 
 mod digits;
 
-use digits::{bytes, cut, put};
+use digits::Parts;
 use numbers::{Kind, Mark};
-use refusals::OUTPUT;
-
-// How many bytes a text has, or why it is refused.
-#[derive(Clone, Copy)]
-pub enum Writing {
-    Bytes(usize),
-    Refused(u32),
-}
+use refusals::Refusal;
 
 // A writing in the paper's own numbers, as it goes out to C: 0 beside a refusal.
 #[repr(C)]
@@ -27,25 +22,42 @@ pub struct WritingOut {
     pub bytes: u64,
 }
 
+impl From<Result<usize, Refusal>> for WritingOut {
+    ghost from_gives = { λ writing out. out ≡ writing_paper writing };
+
+    fn from(writing: Result<usize, Refusal>) -> WritingOut {
+        match writing {
+            Ok(n) => WritingOut {
+                refusal: 0,
+                bytes: n as u64,
+            },
+            Err(refusal) => WritingOut {
+                refusal: refusal.number(),
+                bytes: 0,
+            },
+        }
+    }
+}
+
 // How many bytes the text of a value has, under either mark.
 #[tactic(auto, using(crate::proofs::NumeralSteps::any_mark))]
 pub fn size(value: i32, kind: Kind) -> usize
     ensures { result ≡ length (numeral_of kind M.Point value) }
 {
-    bytes(cut(value, kind))
+    Parts::cut(value, kind).bytes()
 }
 
 // The text of a value into the start of the output, which has to have room for all of it.
 #[tactic(auto, using(crate::proofs::NumeralSteps::any_mark, crate::proofs::OutputLaws::room_refused, crate::proofs::OutputLaws::text_written, crate::proofs::OutputLaws::output_sets))]
-pub fn write(value: i32, kind: Kind, mark: Mark, out: &mut [u8]) -> Writing
-    ensures answer { result ≡ writing_of 0 (numeral_of kind mark value) 0 out.old }
-    ensures left { out.new ≡ output_of 0 (numeral_of kind mark value) 0 out.old }
+pub fn write(value: i32, kind: Kind, mark: Mark, out: &mut [u8]) -> Result<usize, Refusal>
+    ensures answer { result ≡ writing_of fine (numeral_of kind mark value) 0 out.old }
+    ensures left { out.new ≡ output_of fine (numeral_of kind mark value) 0 out.old }
 {
-    let parts = cut(value, kind);
-    let n = bytes(parts);
+    let parts = Parts::cut(value, kind);
+    let n = parts.bytes();
     if out.len() < n {
-        return Writing::Refused(OUTPUT);
+        return Err(Refusal::Output);
     }
-    put(out, parts, mark.named());
-    Writing::Bytes(n)
+    parts.put(out, mark.named());
+    Ok(n)
 }

@@ -1,8 +1,9 @@
 -- Comparisons of floats: nothing is below or above a NaN, and of two other floats the first is at most the second unless the second is below it.
 -- Assumes nothing.
-use Rattle.std.specs.Prelude.{◌≡◌, refl, Bool, true, false, not, ◌&&◌, ◌||◌, ℕ, ◌+◌, ◌*◌, ltb, eqb, Float}
-use Rattle.std.proofs.Common.{arith, ltb-true, ltb-false, eqb-true, eq-eqb}
+use Rattle.std.specs.Prelude.{◌≡◌, refl, Bool, true, false, not, ◌&&◌, ◌||◌, ℕ, ◌+◌, ◌*◌, ltb, eqb, Float, cond, Some, None}
+use Rattle.std.proofs.Common.{Less, Equal, Greater, arith, ltb-true, ltb-false, eqb-true, eq-eqb}
 use Rattle.std.proofs.lemmas.Bool.{eqb-false}
+use Rattle.std.specs.Ordering.{partial_le, float_partial_cmp, is_some_and, is_le}
 use Rattle.std.specs.Float.{nan, inf, fin}
 use Rattle.std.specs.Float.Ieee.{up, down, lt, le, eq, below, level, is_nan}
 use Rattle.refusals.specs.Tests.{clash}
@@ -82,3 +83,16 @@ eq_self (inf true) p = refl
 eq_self (inf false) p = refl
 eq_self (fin true m e) p = rw (eq-eqb (m * up e * down e) (m * up e * down e) refl)
 eq_self (fin false m e) p = rw (eq-eqb (m * up e * down e) (m * up e * down e) refl)
+
+-- ---- ranges
+
+-- what the library's order says is `le`
+pub partial_le_is : (x y : Float) → partial_le float_partial_cmp x y ≡ le x y
+unfolding le
+partial_le_is x y = go (lt x y) (eq x y) (lt y x)
+  where
+    go : (a b c : Bool) → is_some_and is_le (cond a (Some Less) (cond b (Some Equal) (cond c (Some Greater) None))) ≡ a || b
+    go true b c = refl
+    go false true c = refl
+    go false false true = refl
+    go false false false = refl

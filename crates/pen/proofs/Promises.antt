@@ -1,6 +1,6 @@
 -- What is promised of the pen: of every step that the door answers, in the paper's numbers. docs/PROMISES.md names these theorems.
 -- Assumes nothing.
-use Rattle.std.specs.Prelude.{◌≡◌, ◌↔◌, ◌⊎◌, Bool, not, ◌&&◌, ◌||◌, leb, Float, ℤ, neg_ℤ, ◌*ℤ◌}
+use Rattle.std.specs.Prelude.{◌≡◌, ◌↔◌, ◌⊎◌, Result, Ok, Err, Bool, not, ◌&&◌, ◌||◌, leb, Float, ℤ, neg_ℤ, ◌*ℤ◌}
 use Rattle.std.proofs.Math.Path.{refl}
 use Rattle.std.proofs.Common.{sym, ◌∙◌, inl, inr, arith}
 use Rattle.std.proofs.Math.Bool.{true, false}
@@ -12,13 +12,13 @@ use Rattle.std.proofs.Math.IntN.{pos}
 use Rattle.signed.specs.Sides.{mul_neg}
 use Rattle.signed.specs.Tests.{eq_z, ne_eq_z}
 use Rattle.refusals.specs.Choice.{unless}
-use Rattle.refusals.specs.Tests.{by_test, clash, and_true, and_no, or_yes}
+use Rattle.refusals.specs.declared.Refusal.{Refusal}
+use Rattle.refusals.specs.Tests.{some_number, by_test, clash, and_true, and_no, or_yes}
 use Rattle.ticks.specs.Ticks.{is_latitude, is_longitude, offset_of, point_refusal, sheet_refusal}
 use Rattle.globe.specs.declared.Place.{Place}
-use Rattle.globe.specs.declared.Place.TheVariants as P
 use Rattle.globe.specs.Angle.{short_cosine}
 use Rattle.globe.proofs.AngleLaws.{cosine_mirror}
-use Rattle.globe.specs.Sheet.{sinusoid, place_of, sinusoidal_of}
+use Rattle.globe.specs.Sheet.{sinusoid, place, place_of, sinusoidal_of}
 use Rattle.globe.proofs.SheetLaws.{place_tells}
 use Rattle.pen.specs.declared.Window.{Window}
 use Rattle.pen.specs.declared.Pen.{Pen}
@@ -27,7 +27,7 @@ use Rattle.pen.proofs.FloatLaws.{no_nan, le_lt}
 use Rattle.pen.specs.Position.{millimetres, across, float}
 use Rattle.pen.proofs.PositionLaws.{is_plain, nearest, across_mirror, millimetres_mirror, float_number, position_nearest, plain, nearest_mirror}
 use Rattle.pen.proofs.Reach.{millimetres_within, across_within, place_within}
-use Rattle.pen.specs.Pen.{is_window, is_divisor, inside, new_pen, drawn, step_at, step_of}
+use Rattle.pen.specs.Pen.{is_window, is_divisor, inside, new_pen, drawn, place_in, step_at, step_of}
 use Rattle.pen.proofs.PenLaws.{Accepted, Says, refused, accepted, says, by_stroke}
 use Rattle.pen.specs.Paper.{pen_of, pen_paper, step_paper, stepped}
 
@@ -122,7 +122,7 @@ module _ (got : ℕ) (w : Window) (divisor : ℕ) (meridian lat lon third : ℤ)
   cases = says (pen_of got) w divisor meridian lat lon third
 
   number_is : s.refusal ≡ chain (is_window w) (is_divisor divisor) (is_longitude meridian) (is_latitude lat) (is_longitude lon)
-  unfolding chain step_of place_of sheet_refusal point_refusal
+  unfolding chain step_of place_in place_of sheet_refusal point_refusal
   number_is =
       by_test (is_window w)
       (λ p.
@@ -163,7 +163,7 @@ module _ (got : ℕ) (w : Window) (divisor : ℕ) (meridian lat lon third : ℤ)
   refused_step f = go cases
     where
       go : Cases → s ≡ record { refusal = s.refusal; stroke = 0; x = fin false 0 (pos 0); y = fin false 0 (pos 0); pen = got }
-      go (refused n e) = rw e
+      go (refused r e) = rw e
       go (accepted a e) = absurd (f (rw e (no_refusal got (pen_of got) w divisor third _ _)))
 
   -- ---- strokes
@@ -180,7 +180,7 @@ module _ (got : ℕ) (w : Window) (divisor : ℕ) (meridian lat lon third : ℤ)
   up_after_outside h k = go cases
     where
       go : Cases → s ≡ record { refusal = 0; stroke = 0; x = fin false 0 (pos 0); y = fin false 0 (pos 0); pen = 0 }
-      go (refused n e) = absurd (omega (arith, rw e at h))
+      go (refused r e) = absurd (omega (arith, rw e at h, some_number r))
       go (accepted a e) =
           by_stroke is_inside is_joined (λ i. rw (e, i)) (λ i j. absurd (omega (arith, rw (e, i, j) at k))) (λ i j. absurd (omega (arith, rw (e, i, j) at k)))
 
@@ -190,10 +190,10 @@ module _ (got : ℕ) (w : Window) (divisor : ℕ) (meridian lat lon third : ℤ)
   down_after_stroke f = go cases
     where
       go : Cases → s.pen ≡ 1
-      go (refused n e) = absurd (f (rw e))
+      go (refused r e) = absurd (f (rw e))
       go (accepted a e) = by_stroke is_inside is_joined (λ i. absurd (f (rw (e, i)))) (λ i j. rw (e, i, j)) (λ i j. rw (e, i, j))
 
-  module _ {x y : ℤ} (h : s.refusal ≡ 0) (p : sinusoidal_of lat lon meridian ≡ P.At x y) where
+  module _ {x y : ℤ} (h : s.refusal ≡ 0) (p : sinusoidal_of lat lon meridian ≡ Ok (place x y)) where
     -- with X and Y as floats before the division
     abbrev past : Bool
     past = beyond w (float (across x)) (float (millimetres y))
@@ -213,7 +213,7 @@ module _ (got : ℕ) (w : Window) (divisor : ℕ) (meridian lat lon third : ℤ)
     outside_exactly = go cases
       where
         go : Cases → (s.stroke ≡ 0) ↔ (past ≡ true)
-        go (refused n e) = absurd (omega (arith, rw e at h))
+        go (refused r e) = absurd (omega (arith, rw e at h, some_number r))
         go (accepted a e) =
             by_stroke is_inside is_joined (λ i. (λ k. not-false past (sym (placed_inside a) ∙ i), λ b. rw (e, i)))
             (λ i j. (λ k. absurd (omega (arith, rw (e, i, j) at k)), λ b. clash b (not-true past (sym (placed_inside a) ∙ i))))
@@ -229,7 +229,7 @@ module _ (got : ℕ) (w : Window) (divisor : ℕ) (meridian lat lon third : ℤ)
         joined (suc n) d = rw t
 
         go : Cases → s.stroke ≡ 2
-        go (refused n e) = absurd (omega (arith, rw e at h))
+        go (refused r e) = absurd (omega (arith, rw e at h, some_number r))
         go (accepted a e) = rw (e, placed_inside a, b, joined got d)
 
     -- "otherwise Move"
@@ -242,17 +242,17 @@ module _ (got : ℕ) (w : Window) (divisor : ℕ) (meridian lat lon third : ℤ)
         apart (inr t) = and_no (pen_of got).down (eq_z third (pos 0)) (ne_eq_z third (pos 0) t)
 
         go : Cases → s.stroke ≡ 1
-        go (refused n e) = absurd (omega (arith, rw e at h))
+        go (refused r e) = absurd (omega (arith, rw e at h, some_number r))
         go (accepted a e) = rw (e, placed_inside a, b, apart u)
 
   -- "(any other third number counts as 1)"
   pub third_as_1 : (third ≡ pos 0 → ⊥) → s ≡ stepped got w divisor meridian lat lon (pos 1)
   unfolding step_of drawn
-  third_as_1 t = rw (at (sinusoidal_of lat lon meridian))
+  third_as_1 t = rw (at (place_in w divisor meridian lat lon))
     where
-      at : (p : Place) → step_at (pen_of got) (drawn (pen_of got) w divisor third) p ≡ step_at (pen_of got) (drawn (pen_of got) w divisor (pos 1)) p
-      at (P.At x y) = rw (ne_eq_z third (pos 0) t)
-      at (P.Refused n) = refl
+      at : (p : Result Place Refusal) → step_at (pen_of got) (drawn (pen_of got) w divisor third) p ≡ step_at (pen_of got) (drawn (pen_of got) w divisor (pos 1)) p
+      at (Ok p) = rw (ne_eq_z third (pos 0) t)
+      at (Err r) = refl
 
   -- ---- positions
 
@@ -262,7 +262,7 @@ module _ (got : ℕ) (w : Window) (divisor : ℕ) (meridian lat lon third : ℤ)
   positioned = go cases
     where
       go : Cases → T (is_plain s.x) × T (is_plain s.y)
-      go (refused n e) = rw e (tt, tt)
+      go (refused r e) = rw e (tt, tt)
       go (accepted a e) =
           let d = divisor_between divisor a.divided in
           let b = place_within lat lon meridian a.placed in
@@ -271,13 +271,13 @@ module _ (got : ℕ) (w : Window) (divisor : ℕ) (meridian lat lon third : ℤ)
           by_stroke is_inside is_joined (λ i. rw (e, i) (tt, tt)) (λ i j. rw (e, i, j) (x, y)) (λ i j. rw (e, i, j) (x, y))
 
   -- "each as a float, divided once by the divisor as a float": the double nearest to the exact quotient
-  pub position_is : {x y : ℤ} → (s.stroke ≡ 0 → ⊥) → sinusoidal_of lat lon meridian ≡ P.At x y
+  pub position_is : {x y : ℤ} → (s.stroke ≡ 0 → ⊥) → sinusoidal_of lat lon meridian ≡ Ok (place x y)
       → (s.x ≡ nearest divisor (across x)) × (s.y ≡ nearest divisor (millimetres y))
   unfolding drawn
   position_is {x} {y} f p = go cases
     where
       go : Cases → (s.x ≡ nearest divisor (across x)) × (s.y ≡ nearest divisor (millimetres y))
-      go (refused n e) = absurd (f (rw e))
+      go (refused r e) = absurd (f (rw e))
       go (accepted a e) =
           let t = place_tells sinusoid lat lon meridian p in
           let d = divisor_between divisor a.divided in
@@ -291,7 +291,7 @@ module _ (got : ℕ) (w : Window) (divisor : ℕ) (meridian lat lon third : ℤ)
   drew f = go cases
     where
       go : Cases → Accepted (pen_of got) w divisor meridian lat lon third
-      go (refused n e) = absurd (f (rw e))
+      go (refused r e) = absurd (f (rw e))
       go (accepted a e) = a
 
 -- ---- two steps
@@ -306,8 +306,8 @@ any_divisor got w divisor divisor' meridian lat lon third h k =
   where
     go : Says (pen_of got) w divisor meridian lat lon third → Says (pen_of got) w divisor' meridian lat lon third
         → (stepped got w divisor meridian lat lon third).stroke ≡ (stepped got w divisor' meridian lat lon third).stroke
-    go (refused n e) c = absurd (omega (arith, rw e at h))
-    go (accepted a e) (refused n f) = absurd (omega (arith, rw f at k))
+    go (refused r e) c = absurd (omega (arith, rw e at h, some_number r))
+    go (accepted a e) (refused r f) = absurd (omega (arith, rw f at k, some_number r))
     go (accepted a e) (accepted b f) =
         by_stroke (is_inside got w divisor meridian lat lon third) (is_joined got w divisor meridian lat lon third)
         (λ i. rw (e, f, i)) (λ i j. rw (e, f, i, j)) (λ i j. rw (e, f, i, j))
@@ -352,7 +352,7 @@ pub refused_pen : (pen : Pen) (w : Window) (divisor : ℕ) (meridian lat lon thi
 refused_pen pen w divisor meridian lat lon third f = go (says pen w divisor meridian lat lon third)
   where
     go : Says pen w divisor meridian lat lon third → (step_of pen w divisor meridian lat lon third).next ≡ pen
-    go (refused n e) = rw e
+    go (refused r e) = rw e
     go (accepted a e) = absurd (f (rw e (no_refusal (pen_paper pen) pen w divisor third _ _)))
 
 -- "A new pen is up.": its first stroke is no line
@@ -362,7 +362,7 @@ unfolding drawn
 first_stroke w divisor meridian lat lon third h = go (says new_pen w divisor meridian lat lon third)
   where
     go : Says new_pen w divisor meridian lat lon third → ⊥
-    go (refused n e) = omega (arith, rw e at h)
+    go (refused r e) = omega (arith, rw e at h)
     go (accepted a e) = by_test (is_inside 0 w divisor meridian lat lon third) (λ i. omega (arith, rw (e, i) at h)) (λ i. omega (arith, rw (e, i) at h))
 
 -- "Y is latitude × 111,194,927 / 10,000,000", dropping toward zero

@@ -1,14 +1,14 @@
 -- A step in the paper's own numbers: its refusal, 0 where there is none; its stroke, 0 outside, 1 move, 2 line; the two floats of a
 -- position; and the next pen, 0 up, 1 down. "A refusal gives zero in every value beside its number .. the pen step hands back the pen it got."
 -- Assumes nothing.
-use Rattle.std.specs.Prelude.{false, ℕ, zero, suc, Float, ℤ, pos, if◌then◌else◌}
+use Rattle.std.specs.Prelude.{false, ℕ, zero, suc, Float, ℤ, pos, if◌then◌else◌, Result, Ok, Err}
 use Rattle.std.specs.Float.{fin}
+use Rattle.refusals.specs.declared.Refusal.{Refusal}
+use Rattle.refusals.specs.Refusal.{number}
 use Rattle.pen.specs.declared.Window.{Window}
 use Rattle.pen.specs.declared.Pen.{Pen}
 use Rattle.pen.specs.declared.Step.{Step}
 use Rattle.pen.specs.declared.StepOut.{StepOut}
-use Rattle.pen.specs.declared.Answer.{Answer}
-use Rattle.pen.specs.declared.Answer.TheVariants.{Drawn, Refused}
 use Rattle.pen.specs.declared.Stroke.{Stroke}
 use Rattle.pen.specs.declared.Stroke.TheVariants.{Outside, Move, Line}
 use Rattle.pen.specs.Pen.{up, lowered, step_of}
@@ -34,9 +34,9 @@ drawn_paper (Move a b) = out 0 1 a b
 drawn_paper (Line a b) = out 0 2 a b
 
 -- beside a refusal stands the very number of the pen that came in
-abbrev pub answer_paper : ℕ → ℕ → Answer → StepOut
-answer_paper got next (Drawn s) = drawn_paper s next
-answer_paper got next (Refused n) = out n 0 zero_float zero_float got
+abbrev pub answer_paper : ℕ → ℕ → Result Stroke Refusal → StepOut
+answer_paper got next (Ok s) = drawn_paper s next
+answer_paper got next (Err r) = out (number r) 0 zero_float zero_float got
 
 abbrev pub step_paper : ℕ → Step → StepOut
 step_paper got s = answer_paper got (pen_paper s.next) s.answer

@@ -1,15 +1,15 @@
-// The pen: what it draws at a point of a route, in a window on the sinusoidal sheet. Every step answers a stroke or a refusal's
-// number, and the next pen.
+// The pen: what it draws at a point of a route, in a window on the sinusoidal sheet. Every step answers a stroke or what is refused,
+// and the next pen.
 #![tactic(auto)]
 
 ghost use Rattle.std.specs.Prelude.{◌≡◌};
-ghost use Rattle.pen.specs.Pen.{is_window, is_divisor, inside, new_pen, drawn, step_of};
+ghost use Rattle.pen.specs.Pen.{is_window, is_divisor, inside, new_pen, drawn, place_in, step_of};
 
 mod position;
 
 use crate::position::{across, along};
-use globe::Place;
-use refusals::{DIVISOR, WINDOW};
+use globe::{Place, Point};
+use refusals::Refusal;
 
 const MOST_A_PIXEL: u32 = 1_000_000;
 
@@ -30,19 +30,13 @@ pub enum Stroke {
 }
 
 #[derive(Clone, Copy)]
-pub enum Answer {
-    Drawn(Stroke),
-    Refused(u32),
-}
-
-#[derive(Clone, Copy)]
 pub struct Pen {
     pub down: bool,
 }
 
 #[derive(Clone, Copy)]
 pub struct Step {
-    pub answer: Answer,
+    pub answer: Result<Stroke, Refusal>,
     pub next: Pen,
 }
 
@@ -63,21 +57,46 @@ impl Window {
     fn is_window(self) -> bool
         ensures { result ≡ is_window self }
     {
-        (self.left < self.right) & (self.bottom < self.top)
+        self.left < self.right && self.bottom < self.top
     }
 
     // The edges are counted in.
+    #[tactic(auto, using(crate::proofs::FloatLaws::partial_le_is))]
     fn holds(self, x: f64, y: f64) -> bool
         ensures { result ≡ inside self x y }
     {
-        (self.left <= x) & (x <= self.right) & (self.bottom <= y) & (y <= self.top)
+        (self.left..=self.right).contains(&x) && (self.bottom..=self.top).contains(&y)
     }
 }
 
 fn is_divisor(divisor: u32) -> bool
     ensures { result ≡ is_divisor divisor }
 {
-    (1 <= divisor) & (divisor <= MOST_A_PIXEL)
+    (1..=MOST_A_PIXEL).contains(&divisor)
+}
+
+// The place of a point that a step may draw.
+#[tactic(auto, unfolding(crate::specs::Pen::place_in))]
+fn place(
+    window: Window,
+    divisor: u32,
+    meridian: i32,
+    latitude: i32,
+    longitude: i32,
+) -> Result<Place, Refusal>
+    ensures { result ≡ place_in window divisor meridian latitude longitude }
+{
+    if !window.is_window() {
+        return Err(Refusal::Window);
+    }
+    if !is_divisor(divisor) {
+        return Err(Refusal::Divisor);
+    }
+    let point = Point {
+        latitude,
+        longitude,
+    };
+    globe::sinusoidal(point, meridian)
 }
 
 impl Pen {
@@ -95,26 +114,26 @@ impl Pen {
     {
         if !window.holds(x, y) {
             return Step {
-                answer: Answer::Drawn(Stroke::Outside),
+                answer: Ok(Stroke::Outside),
                 next: Pen { down: false },
             };
         }
         let a = x / (divisor as f64);
         let b = y / (divisor as f64);
-        if self.down & (third == 0) {
-            return Step {
-                answer: Answer::Drawn(Stroke::Line(a, b)),
-                next: Pen { down: true },
-            };
-        }
+        let stroke = if self.down && third == 0 {
+            Stroke::Line(a, b)
+        } else {
+            Stroke::Move(a, b)
+        };
         Step {
-            answer: Answer::Drawn(Stroke::Move(a, b)),
+            answer: Ok(stroke),
             next: Pen { down: true },
         }
     }
 
     // The step at a point whose third number is 0 where the leg into it is drawn. A refusal hands back the pen it got.
-    #[tactic(auto, using(signed::specs::Machine::kept, crate::proofs::PenLaws::no_window, crate::proofs::PenLaws::no_divisor, crate::proofs::PenLaws::step_placed, crate::proofs::Reach::place_within))]
+    // Kept: six arguments, since a struct of divisor, meridian and point would be filled anew for each call.
+    #[tactic(auto, using(crate::proofs::Reach::across_asked, crate::proofs::Reach::along_asked), unfolding(crate::specs::Pen::step_of))]
     pub fn step(
         self,
         window: Window,
@@ -126,23 +145,10 @@ impl Pen {
     ) -> Step
         ensures { result ≡ step_of self window divisor meridian latitude longitude third }
     {
-        if !window.is_window() {
-            return Step {
-                answer: Answer::Refused(WINDOW),
-                next: self,
-            };
-        }
-        if !is_divisor(divisor) {
-            return Step {
-                answer: Answer::Refused(DIVISOR),
-                next: self,
-            };
-        }
-        let place = globe::sinusoidal(latitude, longitude, meridian);
-        match place {
-            Place::At(x, y) => self.draw(window, divisor, across(x), along(y), third),
-            Place::Refused(n) => Step {
-                answer: Answer::Refused(n),
+        match place(window, divisor, meridian, latitude, longitude) {
+            Ok(p) => self.draw(window, divisor, across(p.x), along(p.y), third),
+            Err(refusal) => Step {
+                answer: Err(refusal),
                 next: self,
             },
         }

@@ -1,16 +1,19 @@
 -- What is known of an accepted point buffer and of its beginnings, that the numbers of points one after the other are accepted, and what a stored point leaves.
 -- Assumes nothing.
-use Rattle.std.specs.Prelude.{◌≡◌, true, false, ◌&&◌, List, [], ◌++◌, leb, eqb, ℤ, pos, length, take, set}
+use Rattle.std.specs.Prelude.{◌≡◌, ◌≢◌, true, false, ◌&&◌, List, [], ◌++◌, leb, eqb, ℤ, pos, length, take, set, Err, ltb}
 use Rattle.std.proofs.Math.Path.{refl}
 use Rattle.std.proofs.Common.{append_assoc, add-zero, zero-add, add-one, arith, take_all, take-suc, length-take-le, get_or-take, to_z-of_z, to_z, of_z}
 use Prim.Native.Nat.{ℕ, zero, suc, ◌+◌, ◌*◌, ◌%◌, ◌≤◌, ◌<◌}
 use Rattle.std.proofs.Math.Numerals.{add-two}
 use borrow.Author.Count.{below_none, below_more}
-use borrow.Author.Tests.{eqb-true, leb-true, eq-eqb, le-leb, lt-ltb, le-ltb}
+use borrow.Author.Tests.{eqb-true, leb-true, eq-eqb, ne_eqb, lt-leb, le-leb, lt-ltb, le-ltb, ltb-true, ltb-false}
 use Rattle.std.proofs.lemmas.List.Edits.{sets}
+use Rattle.std.proofs.lemmas.List.{get_or_past}
 use Rattle.std.specs.Int.{w32}
-use Rattle.refusals.specs.Refusal.{POINTS, BUFFER}
-use Rattle.refusals.specs.Tests.{and_true, true_and, unless_none, first_none}
+use Rattle.refusals.specs.declared.Refusal.{Refusal}
+use Rattle.refusals.specs.declared.Refusal.TheVariants as R
+use Rattle.refusals.specs.Choice.{fine}
+use Rattle.refusals.specs.Tests.{by_test, and_true, true_and, and_no, unless_none, first_none}
 use Rattle.signed.specs.Tests.{eq_z}
 use Rattle.ticks.specs.Ticks.{is_latitude, is_longitude, point_refusal}
 use Rattle.ticks.proofs.TickLaws.{point_accepted, latitude_fits, longitude_fits}
@@ -22,14 +25,14 @@ pub record Accepted (b : List ℤ) : Type 0 where
   pub whole : length b % numbers ≡ 0
   pub thirds : thirds_fit b (count b) ≡ true
   pub few : count b ≤ most_points
-  pub points : points_refusal b (count b) ≡ 0
+  pub points : points_refusal b (count b) ≡ fine
 
-pub accepted : (b : List ℤ) → buffer_refusal b ≡ 0 → Accepted b
+pub accepted : (b : List ℤ) → buffer_refusal b ≡ fine → Accepted b
 unfolding buffer_refusal
 accepted b e =
-    let p = unless_none (eqb (length b % numbers) 0 && thirds_fit b (count b)) BUFFER _ (omega arith) e in
+    let p = unless_none (eqb (length b % numbers) 0 && thirds_fit b (count b)) R.Buffer _ e in
     let q = and_true (eqb (length b % numbers) 0) (thirds_fit b (count b)) p.0 in
-    let r = unless_none (leb (count b) most_points) POINTS _ (omega arith) p.1 in
+    let r = unless_none (leb (count b) most_points) R.Points _ p.1 in
     record { whole = eqb-true _ 0 q.0; thirds = q.1; few = leb-true _ most_points r.0; points = r.1 }
 
 pub record Point (b : List ℤ) (i : ℕ) : Type 0 where
@@ -43,7 +46,7 @@ module _ (b : List ℤ) where
   Fits i = fits_after i (third_at b i) ≡ true
 
   abbrev pub Unrefused : ℕ → Type 0
-  Unrefused i = point_refusal (latitude_at b i) (longitude_at b i) ≡ 0
+  Unrefused i = point_refusal (latitude_at b i) (longitude_at b i) ≡ fine
 
   pub thirds_of : (n : ℕ) → thirds_fit b n ≡ true → (i : ℕ) → i < n → Fits i
   unfolding thirds_fit
@@ -57,23 +60,73 @@ module _ (b : List ℤ) where
   thirds_fit_lem zero h = refl
   thirds_fit_lem (suc n) h = true_and (thirds_fit_lem n (λ i l. h i (omega arith))) (h n (omega arith))
 
-  pub unrefused_of : (n : ℕ) → points_refusal b n ≡ 0 → (i : ℕ) → i < n → Unrefused i
+  pub unrefused_of : (n : ℕ) → points_refusal b n ≡ fine → (i : ℕ) → i < n → Unrefused i
   unfolding points_refusal
   unrefused_of zero e i h = below_none Unrefused i h
   unrefused_of (suc n) e i h =
       let p = first_none (points_refusal b n) (point_refusal (latitude_at b n) (longitude_at b n)) e in
       below_more Unrefused n (unrefused_of n p.0) p.1 i (omega arith)
 
-  none_refused : (n : ℕ) → ((i : ℕ) → i < n → Unrefused i) → points_refusal b n ≡ 0
+  none_refused : (n : ℕ) → ((i : ℕ) → i < n → Unrefused i) → points_refusal b n ≡ fine
   unfolding points_refusal
   none_refused zero h = refl
   none_refused (suc n) h = rw (none_refused n (λ i l. h i (omega arith)), h n (omega arith))
 
-pub point_of_lem : (b : List ℤ) → buffer_refusal b ≡ 0 → (i : ℕ) → i < count b → Point b i
+  -- one that does not fit is one of all
+  pub unfit_at : (n i : ℕ) → i < n → fits_after i (third_at b i) ≡ false → thirds_fit b n ≡ false
+  unfolding thirds_fit
+  unfit_at zero i h = absurd (omega arith)
+  unfit_at (suc n) i h =
+      below_more (λ k. fits_after k (third_at b k) ≡ false → thirds_fit b (suc n) ≡ false) n
+      (λ k l e. rw (unfit_at n k l e)) (λ e. and_no (thirds_fit b n) _ e) i (omega arith)
+
+  -- the first point that is refused refuses them all
+  pub refused_at : {r : Refusal} (n i : ℕ) → i < n → points_refusal b i ≡ fine → point_refusal (latitude_at b i) (longitude_at b i) ≡ Err r
+      → points_refusal b n ≡ Err r
+  unfolding points_refusal
+  refused_at zero i h = absurd (omega arith)
+  refused_at {r} (suc n) i h =
+      below_more (λ k. points_refusal b k ≡ fine → point_refusal (latitude_at b k) (longitude_at b k) ≡ Err r → points_refusal b (suc n) ≡ Err r) n
+      (λ k l p e. rw (refused_at n k l p e)) (λ p e. rw (p, e)) i (omega arith)
+
+-- each way out of the buffer's check
+module _ (b : List ℤ) where
+  pub not_whole : length b % numbers ≢ 0 → buffer_refusal b ≡ Err R.Buffer
+  unfolding buffer_refusal
+  not_whole h = rw (ne_eqb (length b % numbers) 0 h)
+
+  pub not_fit : thirds_fit b (count b) ≡ false → buffer_refusal b ≡ Err R.Buffer
+  unfolding buffer_refusal
+  not_fit h = rw (h, and_no (eqb (length b % numbers) 0) false refl)
+
+  module _ (w : length b % numbers ≡ 0) (t : thirds_fit b (count b) ≡ true) where
+    pub too_many : most_points < count b → buffer_refusal b ≡ Err R.Points
+    unfolding buffer_refusal
+    too_many h = rw (eq-eqb (length b % numbers) 0 w, t, lt-leb (count b) most_points h)
+
+    pub well_formed : count b ≤ most_points → buffer_refusal b ≡ points_refusal b (count b)
+    unfolding buffer_refusal
+    well_formed h = rw (eq-eqb (length b % numbers) 0 w, t, le-leb (count b) most_points h)
+
+pub point_of_lem : (b : List ℤ) → buffer_refusal b ≡ fine → (i : ℕ) → i < count b → Point b i
 point_of_lem b e i h =
     let a = accepted b e in
     let p = point_accepted (latitude_at b i) (longitude_at b i) (unrefused_of b (count b) a.points i h) in
     record { latitude = p.0; longitude = p.1; third = thirds_of b (count b) a.thirds i h }
+
+-- in range is also the 0 that is read where there is no point i
+module _ (b : List ℤ) (e : buffer_refusal b ≡ fine) (i : ℕ) where
+  or_none : (P : ℤ → Type 0) (k : ℕ) → P (pos 0) → (i < count b → P (part_at b i k)) → P (part_at b i k)
+  or_none P k z h =
+      by_test (ltb i (count b))
+      (λ t. h (ltb-true i (count b) t))
+      (λ t. rw (get_or_past b (numbers * i + k) (pos 0) (omega (arith, ltb-false i (count b) t, (accepted b e).whole))) z)
+
+  pub in_latitude : is_latitude (latitude_at b i) ≡ true
+  in_latitude = or_none (λ z. is_latitude z ≡ true) 0 refl (λ h. (point_of_lem b e i h).latitude)
+
+  pub in_longitude : is_longitude (longitude_at b i) ≡ true
+  in_longitude = or_none (λ z. is_longitude z ≡ true) 1 refl (λ h. (point_of_lem b e i h).longitude)
 
 -- the machine reads them back
 pub latitude_read : {b : List ℤ} {i : ℕ} → Point b i → to_z w32 (of_z w32 (latitude_at b i)) ≡ latitude_at b i
@@ -98,13 +151,13 @@ module _ (b : List ℤ) where
       (simp append_assoc)
 
   -- those of all points are the whole buffer
-  pub take_points : buffer_refusal b ≡ 0 → take (numbers * count b) b ≡ b
+  pub take_points : buffer_refusal b ≡ fine → take (numbers * count b) b ≡ b
   take_points e = take_all (numbers * count b) b (omega (arith, (accepted b e).whole))
 
 -- ---- a beginning
 
 -- the first k points of an accepted buffer are accepted too
-module _ (b : List ℤ) (h : buffer_refusal b ≡ 0) (k : ℕ) (l : k ≤ count b) where
+module _ (b : List ℤ) (h : buffer_refusal b ≡ fine) (k : ℕ) (l : k ≤ count b) where
   abbrev first : List ℤ
   first = take (numbers * k) b
 
@@ -123,7 +176,7 @@ module _ (b : List ℤ) (h : buffer_refusal b ≡ 0) (k : ℕ) (l : k ≤ count 
   first_unrefused : (i : ℕ) → i < k → Unrefused first i
   first_unrefused i m = rw (part_first i 0 m (omega arith), part_first i 1 m (omega arith)) (unrefused_of b (count b) (accepted b h).points i (omega arith))
 
-  pub first_accepted : buffer_refusal first ≡ 0
+  pub first_accepted : buffer_refusal first ≡ fine
   unfolding buffer_refusal
   first_accepted =
       rw (eq-eqb (length first % numbers) 0 (omega (arith, first_length)), count_first, thirds_fit_lem first k first_thirds, le-leb k most_points (omega (arith, (accepted b h).few)))
@@ -167,7 +220,7 @@ module _ {b : List ℤ} (ps : Points 0 b) (few : count b ≤ most_points) where
   unfolding point_refusal
   unrefused i h = let p = points_at ps i h in rw (p.latitude, p.longitude)
 
-  pub points_accepted : buffer_refusal b ≡ 0
+  pub points_accepted : buffer_refusal b ≡ fine
   unfolding buffer_refusal
   points_accepted =
       rw (eq-eqb (length b % numbers) 0 (points_whole ps), thirds_fit_lem b (count b) thirds, le-leb (count b) most_points few)

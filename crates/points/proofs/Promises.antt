@@ -1,11 +1,12 @@
 -- What is promised of a point that was put into a buffer, and of what refuses a buffer, proved about the definitions.
 -- Assumes nothing.
-use Rattle.std.specs.Prelude.{◌≡◌, ◌⊎◌, true, false, ◌&&◌, List, leb, eqb, ℤ, pos, length, set}
+use Rattle.std.specs.Prelude.{◌≡◌, ◌⊎◌, true, false, ◌&&◌, List, leb, eqb, ℤ, pos, length, set, Ok, Err}
 use Rattle.std.proofs.Math.Path.{refl}
 use Rattle.std.proofs.Common.{◌∙◌, inl, inr, arith, eqb-true, eq-eqb, leb-true, leb-false, le-leb, length-set, get_or-set_same, get_or-set_other}
 use Prim.Native.Nat.{ℕ, zero, suc, ◌+◌, ◌*◌, ◌%◌, ◌≤◌, ◌<◌}
-use Rattle.refusals.specs.Refusal.{POINTS}
-use Rattle.refusals.specs.Choice.{unless, first_of}
+use Rattle.refusals.specs.declared.Refusal.{Refusal}
+use Rattle.refusals.specs.declared.Refusal.TheVariants as R
+use Rattle.refusals.specs.Choice.{unless, Check, fine, first_of}
 use Rattle.refusals.specs.Tests.{by_test, clash, and_true, true_and}
 use Rattle.signed.specs.Tests.{eq_z, eq_z_true}
 use Rattle.ticks.specs.Ticks.{point_refusal}
@@ -53,19 +54,19 @@ pub record Formed (b : List ℤ) : Type 0 where
   pub whole : length b % 3 ≡ 0
   pub thirds : (i : ℕ) → i < count b → (third_at b i ≡ pos 1) ⊎ ((0 < i) × (third_at b i ≡ pos 0))
 
--- n is the refusal of the first point that has one
-pub record FirstRefused (b : List ℤ) (n : ℕ) : Type 0 where
+-- r is the refusal of the first point that has one
+pub record FirstRefused (b : List ℤ) (r : Refusal) : Type 0 where
   pub i : ℕ
   pub inside : i < count b
-  pub here : point_refusal (latitude_at b i) (longitude_at b i) ≡ n
-  pub before : (j : ℕ) → j < i → point_refusal (latitude_at b j) (longitude_at b j) ≡ 0
+  pub here : point_refusal (latitude_at b i) (longitude_at b i) ≡ Err r
+  pub before : (j : ℕ) → j < i → point_refusal (latitude_at b j) (longitude_at b j) ≡ fine
 
 -- 17 first, then 9, then 6 and 7 by point; no case is another
-pub data Judged (b : List ℤ) (n : ℕ) : Type 0 where
-  unformed : (Formed b → ⊥) → n ≡ 17 → Judged b n
-  many : Formed b → 1_000 < count b → n ≡ 9 → Judged b n
-  refused : Formed b → count b ≤ 1_000 → FirstRefused b n → 0 < n → Judged b n
-  none : Formed b → count b ≤ 1_000 → ((i : ℕ) → i < count b → point_refusal (latitude_at b i) (longitude_at b i) ≡ 0) → n ≡ 0 → Judged b n
+pub data Judged (b : List ℤ) : Check → Type 0 where
+  unformed : (Formed b → ⊥) → Judged b (Err R.Buffer)
+  many : Formed b → 1_000 < count b → Judged b (Err R.Points)
+  refused : {r : Refusal} → Formed b → count b ≤ 1_000 → FirstRefused b r → Judged b (Err r)
+  none : Formed b → count b ≤ 1_000 → ((i : ℕ) → i < count b → point_refusal (latitude_at b i) (longitude_at b i) ≡ fine) → Judged b fine
 
 fits_says : (i : ℕ) (z : ℤ) → fits_after i z ≡ true → (z ≡ pos 1) ⊎ ((0 < i) × (z ≡ pos 0))
 fits_says i z t = by_test (eq_z z (pos 1)) (λ e. inl (eq_z_true z (pos 1) e)) other
@@ -86,31 +87,32 @@ module _ (b : List ℤ) where
   formed_test : Formed b → eqb (length b % numbers) 0 && thirds_fit b (count b) ≡ true
   formed_test f = true_and (eq-eqb (length b % numbers) 0 f.whole) (thirds_fit_lem b (count b) (λ i h. says_fits i (third_at b i) (f.thirds i h)))
 
-  first_refused : (k m : ℕ) → k ≤ count b → points_refusal b k ≡ suc m → FirstRefused b (suc m)
+  first_refused : {r : Refusal} (k : ℕ) → k ≤ count b → points_refusal b k ≡ Err r → FirstRefused b r
   unfolding points_refusal
-  first_refused zero m l e = absurd (omega arith)
-  first_refused (suc k) m l e = go (λ z. first_refused k m (omega arith) z) (points_refusal b k) refl e
+  first_refused zero l e = absurd (grind arith)
+  first_refused {r} (suc k) l e = go (λ z. first_refused k (omega arith) z) (points_refusal b k) refl e
     where
-      go : (points_refusal b k ≡ suc m → FirstRefused b (suc m)) → (a : ℕ) → points_refusal b k ≡ a → first_of a (point_refusal (latitude_at b k) (longitude_at b k)) ≡ suc m → FirstRefused b (suc m)
-      go again zero z h = record { i = k; inside = l; here = h; before = unrefused_of b k z }
-      go again (suc a) z h = again (z ∙ h)
+      go : (points_refusal b k ≡ Err r → FirstRefused b r) → (c : Check) → points_refusal b k ≡ c
+          → first_of c (point_refusal (latitude_at b k) (longitude_at b k)) ≡ Err r → FirstRefused b r
+      go again (Ok tt) z h = record { i = k; inside = l; here = h; before = unrefused_of b k z }
+      go again (Err q) z h = again (z ∙ h)
 
   few_judged : Formed b → count b ≤ 1_000 → Judged b (points_refusal b (count b))
   few_judged f h = go (points_refusal b (count b)) refl
     where
-      go : (n : ℕ) → points_refusal b (count b) ≡ n → Judged b n
-      go zero e = none f h (unrefused_of b (count b) e) refl
-      go (suc m) e = refused f h (first_refused (count b) m (omega arith) e) (omega arith)
+      go : (c : Check) → points_refusal b (count b) ≡ c → Judged b c
+      go (Ok tt) e = none f h (unrefused_of b (count b) e)
+      go (Err r) e = refused f h (first_refused (count b) (omega arith) e)
 
-  formed_judged : Formed b → Judged b (unless (leb (count b) most_points) POINTS (points_refusal b (count b)))
+  formed_judged : Formed b → Judged b (unless (leb (count b) most_points) (Err R.Points) (points_refusal b (count b)))
   formed_judged f =
       by_test (leb (count b) most_points)
       (λ e. rw e (few_judged f (leb-true (count b) 1_000 e)))
-      (λ e. rw e (many f (leb-false (count b) 1_000 e) refl))
+      (λ e. rw e (many f (leb-false (count b) 1_000 e)))
 
   pub buffer_judged : Judged b (buffer_refusal b)
   unfolding buffer_refusal
   buffer_judged =
       by_test (eqb (length b % numbers) 0 && thirds_fit b (count b))
       (λ t. rw t (formed_judged (formed t)))
-      (λ t. rw t (unformed (λ f. clash (formed_test f) t) refl))
+      (λ t. rw t (unformed (λ f. clash (formed_test f) t)))

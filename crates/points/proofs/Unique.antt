@@ -23,5 +23,21 @@ third = answers (λ κs a v w. refl)
 pub put : One contracts.put.ended points.put.Reads.Asked points.put.Reads.Learnt
 put = record { always = λ κs a. tt; one = λ κs a x y v w p q. (refl, ap (λ (l : List ℤ). (l, (tt, (tt, (tt, (tt, tt)))))) (p ∙ sym q)) }
 
-pub buffer_refusal : One contracts.buffer_refusal.ended points.buffer_refusal.Reads.Asked points.buffer_refusal.Reads.Learnt
-buffer_refusal = answers (λ κs a v w. refl)
+pub check_buffer : One contracts.check_buffer.ended points.check_buffer.Reads.Asked points.check_buffer.Reads.Learnt
+check_buffer = answers (λ κs a v w. refl)
+
+pub new : One contracts.Points.new.ended points.Points.new.Reads.Asked points.Points.new.Reads.Learnt
+new = answers (λ κs a v w. refl)
+
+-- beside the number each contract tells what holds of every accepted buffer
+pub points_count : One contracts.Points.count.ended points.Points.count.Reads.Asked points.Points.count.Reads.Learnt
+points_count = record { always = λ κs a. tt; one = λ κs a x y v w p q. (p.0 ∙ sym q.0, refl) }
+
+pub points_latitude : One contracts.Points.latitude.ended points.Points.latitude.Reads.Asked points.Points.latitude.Reads.Learnt
+points_latitude = record { always = λ κs a. tt; one = λ κs a x y v w p q. (p.0 ∙ sym q.0, refl) }
+
+pub points_longitude : One contracts.Points.longitude.ended points.Points.longitude.Reads.Asked points.Points.longitude.Reads.Learnt
+points_longitude = record { always = λ κs a. tt; one = λ κs a x y v w p q. (p.0 ∙ sym q.0, refl) }
+
+pub points_third : One contracts.Points.third.ended points.Points.third.Reads.Asked points.Points.third.Reads.Learnt
+points_third = record { always = λ κs a. tt; one = λ κs a x y v w p q. (p.0 ∙ sym q.0, refl) }

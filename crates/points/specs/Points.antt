@@ -1,9 +1,9 @@
 -- The point buffer: a route's points as numbers, and what refuses them.
 -- Assumes nothing.
-use Rattle.std.specs.Prelude.{ℕ, zero, suc, ◌+◌, ◌*◌, ◌/◌, ◌%◌, Bool, true, ◌&&◌, ◌||◌, List, [], ◌∷◌, leb, ltb, eqb, ℤ, pos, length, get_or, if◌then◌else◌}
+use Rattle.std.specs.Prelude.{ℕ, zero, suc, ◌+◌, ◌*◌, ◌/◌, ◌%◌, Bool, true, ◌&&◌, ◌||◌, List, [], ◌∷◌, leb, ltb, eqb, ℤ, pos, length, get_or, if◌then◌else◌, Err}
 use Rattle.std.proofs.lemmas.List.Edits.{sets}
-use Rattle.refusals.specs.Refusal.{POINTS, BUFFER}
-use Rattle.refusals.specs.Choice.{unless, first_of}
+use Rattle.refusals.specs.declared.Refusal.TheVariants as R
+use Rattle.refusals.specs.Choice.{unless, Check, fine, first_of}
 use Rattle.signed.specs.Tests.{eq_z}
 use Rattle.ticks.specs.Ticks.{point_refusal}
 
@@ -50,13 +50,13 @@ thirds_fit b zero = true
 thirds_fit b (suc n) = thirds_fit b n && fits_after n (third_at b n)
 
 -- 6 and 7 of the first n points, point by point
-unfoldable pub points_refusal : List ℤ → ℕ → ℕ
-points_refusal b zero = 0
+unfoldable pub points_refusal : List ℤ → ℕ → Check
+points_refusal b zero = fine
 points_refusal b (suc n) = first_of (points_refusal b n) (point_refusal (latitude_at b n) (longitude_at b n))
 
 -- "buffer not a multiple of three, a third number other than 0 or 1, or a first one of 0"; more than 1,000 points; then the points
-unfoldable pub buffer_refusal : List ℤ → ℕ
+unfoldable pub buffer_refusal : List ℤ → Check
 buffer_refusal b =
-    unless (eqb (length b % numbers) 0 && thirds_fit b (count b)) BUFFER
-    (unless (leb (count b) most_points) POINTS
+    unless (eqb (length b % numbers) 0 && thirds_fit b (count b)) (Err R.Buffer)
+    (unless (leb (count b) most_points) (Err R.Points)
     (points_refusal b (count b)))

@@ -2,11 +2,14 @@
 // knows how a point's numbers lie.
 #![tactic(auto)]
 
-ghost use Rattle.std.specs.Prelude.{◌≡◌, ◌<◌};
+ghost use Rattle.std.specs.Prelude.{◌≡◌, ◌<◌, true, List, ℤ};
+ghost use Rattle.refusals.specs.Choice.{fine, answered};
+ghost use Rattle.ticks.specs.Ticks.{is_latitude, is_longitude};
 ghost use Rattle.points.specs.Points.{numbers, count, part_at, latitude_at, longitude_at, third_at, put_at, fits_after, thirds_fit, points_refusal, buffer_refusal};
 
-use refusals::{BUFFER, POINTS, first_of};
-use ticks::point_refusal;
+use refusals::Refusal;
+use std::marker::Model;
+use ticks::check_point;
 
 // Latitude, longitude, and 1 where the pen was up before the point, else 0.
 pub const NUMBERS: usize = 3;
@@ -74,46 +77,96 @@ fn third_fits(points: &[i32], i: usize) -> bool
     (pen == 1) | ((1 <= i) & (pen == 0))
 }
 
+#[tactic(auto, using(crate::proofs::PointLaws::unfit_at), unfolding(crate::specs::Points::thirds_fit))]
 fn thirds_fit(points: &[i32], n: usize) -> bool
     ensures { result ≡ thirds_fit points.now n }
 {
-    let mut fit = true;
-    let mut i = 0;
-    while i < n {
-        fit = fit & third_fits(points, i);
-        i += 1;
+    for i in 0..n {
+        if !third_fits(points, i) {
+            return false;
+        }
     }
-    fit
+    true
 }
 
-fn points_refusal(points: &[i32], n: usize) -> u32
+#[tactic(auto, using(signed::specs::Machine::kept, crate::proofs::PointLaws::refused_at), unfolding(crate::specs::Points::points_refusal))]
+fn check_points(points: &[i32], n: usize) -> Result<(), Refusal>
     ensures { result ≡ points_refusal points.now n }
 {
-    let mut refusal: u32 = 0;
-    let mut i = 0;
-    while i < n {
-        refusal = first_of(
-            refusal,
-            point_refusal(latitude(points, i), longitude(points, i)),
-        );
-        i += 1;
+    for i in 0..n {
+        check_point(latitude(points, i), longitude(points, i))?;
     }
-    refusal
+    Ok(())
 }
 
-// 0 where the buffer is accepted.
-pub fn buffer_refusal(points: &[i32]) -> u32
+// Whether a buffer is accepted.
+#[tactic(auto, using(crate::proofs::PointLaws::not_whole, crate::proofs::PointLaws::not_fit, crate::proofs::PointLaws::too_many, crate::proofs::PointLaws::well_formed))]
+pub fn check_buffer(points: &[i32]) -> Result<(), Refusal>
     ensures { result ≡ buffer_refusal points.now }
 {
     if points.len() % NUMBERS != 0 {
-        return BUFFER;
+        return Err(Refusal::Buffer);
     }
     let n = count(points);
     if !thirds_fit(points, n) {
-        return BUFFER;
+        return Err(Refusal::Buffer);
     }
     if MOST_POINTS < n {
-        return POINTS;
+        return Err(Refusal::Points);
     }
-    points_refusal(points, n)
+    check_points(points, n)
+}
+
+// A buffer that is accepted. A clause sees its numbers.
+#[derive(Drop)]
+pub struct Points<'a> {
+    numbers: &'a [i32],
+}
+
+impl<'a> Model for Points<'a> {
+    ghost Value = { List ℤ };
+
+    ghost view = { λ p. p.numbers.now };
+
+    ghost invariant = { λ p. buffer_refusal p.numbers.now ≡ fine };
+}
+
+impl<'a> Points<'a> {
+    #[tactic(auto, using(refusals::specs::Tests::refuses))]
+    pub fn new(numbers: &'a [i32]) -> Result<Points<'a>, Refusal>
+        ensures { result ≡ answered (buffer_refusal numbers.now) numbers.now }
+    {
+        check_buffer(numbers)?;
+        Ok(Points { numbers })
+    }
+
+    pub fn count(&self) -> usize
+        ensures number { result ≡ count self.now }
+        ensures accepted { buffer_refusal self.now ≡ fine }
+    {
+        count(self.numbers)
+    }
+
+    #[tactic(auto, using(signed::specs::Machine::kept, crate::proofs::PointLaws::in_latitude))]
+    pub fn latitude(&self, i: usize) -> i32
+        ensures number { result ≡ latitude_at self.now i }
+        ensures range { is_latitude result ≡ true }
+    {
+        latitude(self.numbers, i)
+    }
+
+    #[tactic(auto, using(signed::specs::Machine::kept, crate::proofs::PointLaws::in_longitude))]
+    pub fn longitude(&self, i: usize) -> i32
+        ensures number { result ≡ longitude_at self.now i }
+        ensures range { is_longitude result ≡ true }
+    {
+        longitude(self.numbers, i)
+    }
+
+    pub fn third(&self, i: usize) -> i32
+        ensures number { result ≡ third_at self.now i }
+        ensures accepted { buffer_refusal self.now ≡ fine }
+    {
+        third(self.numbers, i)
+    }
 }

@@ -5,5 +5,5 @@ use Rattle.refusals.specs.One.{One, answers}
 use Rattle.refusals.specs.contracts as contracts
 use Rattle.refusals.proofs as refusals
 
-pub first_of : One contracts.first_of.ended refusals.first_of.Reads.Asked refusals.first_of.Reads.Learnt
-first_of = answers (λ κs a v w. refl)
+pub number : One contracts.Refusal.number.ended refusals.Refusal.number.Reads.Asked refusals.Refusal.number.Reads.Learnt
+number = answers (λ κs a v w. refl)

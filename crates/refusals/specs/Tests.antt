@@ -1,9 +1,12 @@
 -- What the answer of a test tells, and what a choice by tests comes to.
 -- Assumes nothing.
-use Rattle.std.specs.Prelude.{◌≡◌, refl, Bool, true, false, not, ◌&&◌, ◌||◌, ℕ, zero, suc, ◌<◌}
+use Rattle.std.specs.Prelude.{◌<◌, ◌≢◌, Result, ◌≡◌, refl, Bool, true, false, not, ◌&&◌, ◌||◌, ℕ, Ok, Err}
 use Rattle.std.proofs.Common.{sym, ap, ◌∙◌, arith}
 use Rattle.std.proofs.lemmas.Bool.{not-true, not-false}
-use Rattle.refusals.specs.Choice.{unless, first_of}
+use Rattle.refusals.specs.declared.Refusal.{Refusal}
+use Rattle.refusals.specs.declared.Refusal.TheVariants as R
+use Rattle.refusals.specs.Refusal.{number, of_line}
+use Rattle.refusals.specs.Choice.{unless, Check, fine, sent, first_of, answered, unrefused}
 
 -- ---- one test
 
@@ -60,10 +63,66 @@ unless_says P true p q = q refl
 unless_says P false p q = p
 
 -- nothing was refused
-pub unless_none : (t : Bool) (r v : ℕ) → 0 < r → unless t r v ≡ 0 → (t ≡ true) × (v ≡ 0)
-unless_none true r v h e = (refl, e)
-unless_none false r v h e = absurd (omega arith)
+pub unless_none : (t : Bool) (r : Refusal) (v : Check) → unless t (Err r) v ≡ fine → (t ≡ true) × (v ≡ fine)
+unless_none true r v e = (refl, e)
+unless_none false r v e = grind arith
 
-pub first_none : (a b : ℕ) → first_of a b ≡ 0 → (a ≡ 0) × (b ≡ 0)
-first_none zero b e = (refl, e)
-first_none (suc a) b e = absurd (omega arith)
+pub first_none : (a b : Check) → first_of a b ≡ fine → (a ≡ fine) × (b ≡ fine)
+first_none (Ok tt) b e = (refl, e)
+first_none (Err r) b e = grind arith
+
+-- ---- what is answered beside a refusal
+
+pub refuses : {A : Type 0} (c : Check) (v : A) {r : Refusal} → c ≡ Err r → answered c v ≡ Err r
+refuses c v e = rw e
+
+pub refuses_too : {A : Type 0} (c : Check) (a : Result A Refusal) {r : Refusal} → c ≡ Err r → unrefused c a ≡ Err r
+refuses_too c a e = rw e
+
+-- ---- what is sent back
+
+-- no refusal has the number that says there is none
+pub some_number : (r : Refusal) → 0 < number r
+some_number R.Text = omega arith
+some_number R.Header = omega arith
+some_number R.Line = omega arith
+some_number R.Number = omega arith
+some_number R.Mark = omega arith
+some_number R.Latitude = omega arith
+some_number R.Longitude = omega arith
+some_number R.Order = omega arith
+some_number R.Points = omega arith
+some_number R.Room = omega arith
+some_number R.Place = omega arith
+some_number R.Window = omega arith
+some_number R.Divisor = omega arith
+some_number R.Meridian = omega arith
+some_number R.Output = omega arith
+some_number R.Target = omega arith
+some_number R.Buffer = omega arith
+some_number R.Course = omega arith
+
+pub sent_none : (c : Check) → sent c ≡ 0 → c ≡ fine
+sent_none (Ok tt) e = refl
+sent_none (Err r) e = absurd (omega (arith, some_number r))
+
+-- a line's refusal has neither of the numbers of the two that say line 0
+pub line_number : (r : Refusal) → of_line r ≡ true → (number r ≢ 1) × (number r ≢ 10)
+line_number R.Text h = (λ e. clash h refl, λ e. clash h refl)
+line_number R.Header h = (λ e. omega arith, λ e. omega arith)
+line_number R.Line h = (λ e. omega arith, λ e. omega arith)
+line_number R.Number h = (λ e. omega arith, λ e. omega arith)
+line_number R.Mark h = (λ e. omega arith, λ e. omega arith)
+line_number R.Latitude h = (λ e. omega arith, λ e. omega arith)
+line_number R.Longitude h = (λ e. omega arith, λ e. omega arith)
+line_number R.Order h = (λ e. omega arith, λ e. omega arith)
+line_number R.Points h = (λ e. omega arith, λ e. omega arith)
+line_number R.Room h = (λ e. clash h refl, λ e. clash h refl)
+line_number R.Place h = (λ e. omega arith, λ e. omega arith)
+line_number R.Window h = (λ e. omega arith, λ e. omega arith)
+line_number R.Divisor h = (λ e. omega arith, λ e. omega arith)
+line_number R.Meridian h = (λ e. omega arith, λ e. omega arith)
+line_number R.Output h = (λ e. omega arith, λ e. omega arith)
+line_number R.Target h = (λ e. omega arith, λ e. omega arith)
+line_number R.Buffer h = (λ e. omega arith, λ e. omega arith)
+line_number R.Course h = (λ e. omega arith, λ e. omega arith)

@@ -1,48 +1,65 @@
-// The numbers that are sent back, in the order of the document's table, and the first of two. 0 is none.
+// What is refused, in the order of the document's table, and the number that is sent back for each. 0 is sent where nothing is refused.
 #![tactic(auto)]
 
-ghost use Rattle.std.specs.Prelude.{◌≡◌};
-ghost use Rattle.refusals.specs.Choice.{first_of};
+ghost use Rattle.std.specs.Prelude.{◌≡◌, Some, decimal};
+ghost use Rattle.refusals.specs.Refusal.{number};
 
-pub const TEXT: u32 = 1;
+use std::fmt;
 
-pub const HEADER: u32 = 2;
+#[derive(Clone, Copy, Debug, PartialEq, Eq)]
+pub enum Refusal {
+    Text,
+    Header,
+    Line,
+    Number,
+    Mark,
+    Latitude,
+    Longitude,
+    Order,
+    Points,
+    Room,
+    Place,
+    Window,
+    Divisor,
+    Meridian,
+    Output,
+    Target,
+    Buffer,
+    Course,
+}
 
-pub const LINE: u32 = 3;
+impl Refusal {
+    // The number that is sent back.
+    pub fn number(self) -> u32
+        ensures { result ≡ number self }
+    {
+        match self {
+            Refusal::Text => 1,
+            Refusal::Header => 2,
+            Refusal::Line => 3,
+            Refusal::Number => 4,
+            Refusal::Mark => 5,
+            Refusal::Latitude => 6,
+            Refusal::Longitude => 7,
+            Refusal::Order => 8,
+            Refusal::Points => 9,
+            Refusal::Room => 10,
+            Refusal::Place => 11,
+            Refusal::Window => 12,
+            Refusal::Divisor => 13,
+            Refusal::Meridian => 14,
+            Refusal::Output => 15,
+            Refusal::Target => 16,
+            Refusal::Buffer => 17,
+            Refusal::Course => 18,
+        }
+    }
+}
 
-pub const NUMBER: u32 = 4;
+impl fmt::Display for Refusal {
+    ghost output = { λ r. Some (decimal (number r)) };
 
-pub const MARK: u32 = 5;
-
-pub const LATITUDE: u32 = 6;
-
-pub const LONGITUDE: u32 = 7;
-
-pub const ORDER: u32 = 8;
-
-pub const POINTS: u32 = 9;
-
-pub const ROOM: u32 = 10;
-
-pub const PLACE: u32 = 11;
-
-pub const WINDOW: u32 = 12;
-
-pub const DIVISOR: u32 = 13;
-
-pub const MERIDIAN: u32 = 14;
-
-pub const OUTPUT: u32 = 15;
-
-pub const TARGET: u32 = 16;
-
-pub const BUFFER: u32 = 17;
-
-pub const COURSE: u32 = 18;
-
-// The first of two refusals.
-pub fn first_of(a: u32, b: u32) -> u32
-    ensures { result ≡ first_of a b }
-{
-    if a == 0 { b } else { a }
+    fn fmt<W: fmt::Write>(&self, f: &mut fmt::Formatter<W>) -> fmt::Result {
+        write!(f, "{}", self.number())
+    }
 }

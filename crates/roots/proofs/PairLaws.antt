@@ -1,8 +1,12 @@
 -- Laws of the pairs of a number: the place of the first one, and how many there are.
 -- Assumes nothing.
-use Rattle.std.specs.Prelude.{◌≡◌, refl, ℕ, suc, ◌*◌, ◌/◌, ◌^◌, ◌≤◌, ◌<◌, max}
-use Rattle.std.proofs.Common.{sym, ap, ◌∙◌, lt_of_not-le, div-lt_iff_lt-mul, pow-suc, arith, le-leb, leb-true, leb-false}
-use Rattle.std.proofs.Math.Nat.{one-le-pow, pow-le-pow_right}
+use Rattle.std.specs.Prelude.{◌≡◌, refl, ℕ, suc, ◌+◌, ◌-◌, ◌/◌, ◌%◌, ◌^◌, ◌≤◌, ◌<◌, max, List, length, replicate, set, slice_index}
+use Rattle.std.proofs.Common.{lt_of_not-le, sym, ◌∙◌, mod-lt, div-lt_iff_lt-mul, pow-suc, arith, le-leb, leb-true, leb-false}
+use Rattle.std.proofs.Math.Nat.{one-le-pow, pow-le-pow_right, pow-succ', div-one, div-eq_of_lt, div-div-eq-div-mul, mul-add-div_right}
+use Rattle.std.proofs.Math.Arith.{mod-mul}
+use Rattle.std.proofs.lemmas.Nat.{mod-mul-add}
+use Rattle.std.proofs.lemmas.Grind.{get_or-set_at}
+use Rattle.std.proofs.lemmas.List.{length-set, get_or-set_other}
 use Rattle.std.proofs.Math.Decide.{dec_le}
 use Rattle.std.proofs.Math.Dec.{leb}
 use Rattle.std.proofs.lemmas.Bool.{lt-leb}
@@ -17,28 +21,14 @@ hundred_some k = one-le-pow k 100 (omega arith)
 pub two_digits : (m later : ℕ) → later < 100 ^ suc m → later / 100 ^ m < 100
 two_digits m later below = (div-lt_iff_lt-mul {k = 100 ^ m} {x = later} {y = 100} (hundred_some m)).1 (omega (arith, below, pow-suc 100 m))
 
--- what a loop that seeks it knows: 100^k is not past the number, unless it is 1
-pub record Place (h unit : ℕ) : Type 0 where
-  pub k : ℕ
-  pub power : unit ≡ 100 ^ k
-  pub inside : unit ≤ max h 1
-
-pub start : (h : ℕ) → Place h 1
-start h = record { k = 0; power = refl; inside = omega arith }
-
-pub further : {h unit : ℕ} → unit ≤ h / 100 → Place h unit → Place h (unit * 100)
-further l p = record { k = suc p.k; power = rw p.power (sym (pow-suc 100 p.k)); inside = omega arith }
-
-pub some : {h unit : ℕ} → Place h unit → 0 < unit
-some p = omega (arith, p.power, hundred_some p.k)
-
 few : {h k : ℕ} → h < 2 ^ 64 → 100 ^ k ≤ max h 1 → k ≤ 9
 few {h} {k} fits l = omega (arith, many)
   where
     many : 10 ≤ k → ⊥
     many m = omega (arith, pow-le-pow_right {n = 100} (omega arith) m)
 
-first : (h k : ℕ) → h < 2 ^ 64 → 100 ^ k ≤ max h 1 → h / 100 < 100 ^ k → k ≡ behind_first h
+-- how many stand behind the first pair
+pub first : (h k : ℕ) → h < 2 ^ 64 → 100 ^ k ≤ max h 1 → h / 100 < 100 ^ k → k ≡ behind_first h
 unfolding behind_first
 first h k fits l u =
     greatest_is (λ j. leb (100 ^ j) (max h 1)) (record {
@@ -50,8 +40,58 @@ first h k fits l u =
     past : (j : ℕ) → k < j → max h 1 < 100 ^ j
     past j m = omega (arith, hundred_some k, pow-le-pow_right {n = 100} (omega arith) {i = suc k} {j = j} m, pow-suc 100 k)
 
-pub at_first : {h unit : ℕ} → h < 2 ^ 64 → Place h unit → h / 100 < unit → unit ≡ 100 ^ behind_first h
-at_first {h} fits p u = p.power ∙ ap (λ (j : ℕ). 100 ^ j) (first h p.k fits (rw p.power at p.inside) (rw p.power at u))
+-- ---- parted from the right
+
+-- the two digits behind which m pairs stand
+pub pair_at : (h m : ℕ) → h % 100 ^ suc m / 100 ^ m ≡ h / 100 ^ m % 100
+pair_at h m =
+    rw (pow-succ' 100 m, mod-mul h {m = 100} {c = 100 ^ m} (omega arith) (hundred_some m))
+    (mul-add-div_right (hundred_some m) (h / 100 ^ m % 100) (h % 100 ^ m) ∙ rw (div-eq_of_lt (mod-lt h (hundred_some m))) (omega arith))
+
+pub pairs_behind : (h m : ℕ) → h % 100 ^ suc m % 100 ^ m ≡ h % 100 ^ m
+pairs_behind h m =
+    rw (pow-succ' 100 m, mod-mul h {m = 100} {c = 100 ^ m} (omega arith) (hundred_some m))
+    (mod-mul-add (h / 100 ^ m % 100) (100 ^ m) (h % 100 ^ m) (mod-lt h (hundred_some m)))
+
+pub one_on : (h m : ℕ) → h / 100 ^ m / 100 ≡ h / 100 ^ suc m
+one_on h m = rw (pow-suc 100 m) (div-div-eq-div-mul h (100 ^ m) 100)
+
+-- what a loop knows that parts them: m are put down, and the others are left
+pub record Parted (h count at left : ℕ) (pairs : List ℕ) : Type 0 where
+  pub m : ℕ
+  pub far : at + m ≡ count
+  pub others : left ≡ h / 100 ^ m
+  pub room : count ≤ 10
+  pub many : length pairs ≡ 10
+  pub down : (k j : ℕ) → at ≤ k → k + suc j ≡ count → slice_index pairs k ≡ h / 100 ^ j % 100
+
+pub parted_start : (h count : ℕ) → count ≤ 10 → Parted h count count h (replicate 10 0)
+parted_start h count room = record {
+  m = 0;
+  far = omega arith;
+  others = sym (div-one h);
+  room = room;
+  many = refl;
+  down = λ k j l e. absurd (omega arith);
+}
+
+pub parted_next : {h count at left : ℕ} {pairs : List ℕ} → 0 < at → Parted h count at left pairs
+    → Parted h count (at - 1) (left / 100) (set pairs (at - 1) (left % 100))
+parted_next {h} {count} {at} {left} {pairs} some p = record {
+  m = suc p.m;
+  far = omega (arith, p.far);
+  others = rw p.others (one_on h p.m);
+  room = p.room;
+  many = length-set pairs (at - 1) (left % 100) ∙ p.many;
+  down = λ k j l e. go k j e (dec_le at k) l;
+}
+  where
+    go : (k j : ℕ) → k + suc j ≡ count → Dec (at ≤ k) → at - 1 ≤ k → slice_index (set pairs (at - 1) (left % 100)) k ≡ h / 100 ^ j % 100
+    go k j e (yes l) _ = get_or-set_other pairs (at - 1) k (left % 100) 0 (omega arith) ∙ p.down k j l e
+    go k j e (no f) b =
+        let same : k ≡ at - 1 = omega (arith, lt_of_not-le f) in
+        let last : j ≡ p.m = omega (arith, p.far) in
+        get_or-set_at pairs (at - 1) k (left % 100) 0 same (omega (arith, p.far, p.room, p.many)) ∙ rw (last, p.others) refl
 
 module _ (h : ℕ) where
   behind_meets : IsGreatest (λ j. leb (100 ^ j) (max h 1)) 9 (behind_first h)

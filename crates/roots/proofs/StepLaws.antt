@@ -1,47 +1,43 @@
 -- Laws of the steps, as a loop takes them pair by pair.
 -- Assumes nothing.
-use Rattle.std.specs.Prelude.{◌≡◌, refl, ℕ, zero, suc, ◌+◌, ◌-◌, ◌*◌, ◌/◌, ◌%◌, ◌^◌, ◌≤◌, ◌<◌, length, replicate, set}
-use Rattle.std.proofs.Common.{sym, ◌∙◌, le-mul_of_pos_right, mod-lt, div-add-mod', pow-suc, arith, length-append}
+use Rattle.std.specs.Prelude.{◌≡◌, refl, ℕ, zero, suc, ◌+◌, ◌-◌, ◌*◌, ◌/◌, ◌%◌, ◌^◌, ◌≤◌, ◌<◌, length, replicate, set, take, slice_index}
+use Rattle.std.proofs.Common.{sym, ◌∙◌, arith, length-append}
 use Rattle.std.proofs.Math.Path.{ap}
+use Rattle.std.proofs.Math.Nat.{div-one, div-eq_of_lt, mod-eq_of_lt, div-le_self}
 use mathlib.Core.List.{List, [], ◌∷◌, ◌++◌, append-nil, append_assoc}
-use Rattle.std.proofs.Math.Nat.{pow-zero}
-use Rattle.std.proofs.lemmas.List.{set_at}
+use Rattle.std.proofs.lemmas.List.{set_at, get_or-take, length-take}
+use lib.ListN.{get_or}
 use Rattle.std.proofs.Math.Seq.{append_snoc}
 use Rattle.roots.specs.declared.Step.{Step}
 use Rattle.roots.specs.declared.Working.{Working}
 use Rattle.roots.specs.Root.{root_of}
 use Rattle.roots.specs.School.{behind_first, pairs, taken, digit_of, steps_from, steps_of, none, school_of, Worked}
-use Rattle.roots.proofs.PairLaws.{hundred_some, two_digits, behind_few, behind_top}
+use Rattle.roots.proofs.PairLaws.{behind_few, behind_top, pair_at, pairs_behind, one_on}
 use Rattle.roots.proofs.SchoolLaws.{nothing, no_ten, stepped, root_small, worked_root}
 
--- what the loop knows: n pairs are to come, of those that are `later`, and the part before them is worked
-pub record Sofar (h : ℕ) (steps : List Step) (at root rest later unit : ℕ) : Type 0 where
+-- what the loop knows of `count` pairs: n are to come, and the part before them is worked
+pub record Sofar (h : ℕ) (steps : List Step) (count at root rest : ℕ) : Type 0 where
   pub n : ℕ
-  pub place : unit ≡ 100 ^ n / 100
-  pub below : later < 100 ^ n
-  pub part : ℕ
-  pub whole : part * 100 ^ n + later ≡ h
-  pub worked : Worked part root rest
-  pub room : at + n ≤ 10
+  pub left : at + n ≡ count
+  pub worked : Worked (h / 100 ^ n) root rest
+  pub room : count ≤ 10
   pub done : List Step
   pub many : length done ≡ at
   pub filled : steps ≡ done ++ replicate (10 - at) none
-  pub rows : done ++ steps_from root rest (pairs n later) ≡ steps_of h
+  pub rows : done ++ steps_from root rest (pairs n (h % 100 ^ n)) ≡ steps_of h
 
-pub sofar_start : (h : ℕ) {unit : ℕ} → h < 2 ^ 64 → unit ≡ 100 ^ behind_first h → Sofar h (replicate 10 none) 0 0 0 h unit
+pub sofar_start : (h : ℕ) {behind : ℕ} {empty : Step} → h < 2 ^ 64 → behind ≡ behind_first h
+    → (empty.pair ≡ 0) × ((empty.digit ≡ 0) × (empty.rest ≡ 0)) → Sofar h (replicate 10 empty) (behind + 1) 0 0 0
 unfolding steps_of
-sofar_start h fits e = record {
+sofar_start h {behind} {empty = empty} fits b zeros = record {
   n = suc (behind_first h);
-  place = omega (arith, e, pow-suc 100 (behind_first h));
-  below = behind_top h fits;
-  part = 0;
-  whole = omega arith;
-  worked = nothing;
-  room = omega (arith, behind_few h);
+  left = omega (arith, b);
+  worked = rw (div-eq_of_lt (behind_top h fits)) nothing;
+  room = omega (arith, b, behind_few h);
   done = [];
   many = refl;
-  filled = refl;
-  rows = refl;
+  filled = rw (zeros.0, zeros.1.0, zeros.1.1) refl;
+  rows = rw (mod-eq_of_lt (behind_top h fits)) refl;
 }
 
 pub record Bounds (at root rest pair : ℕ) : Type 0 where
@@ -52,94 +48,104 @@ pub record Bounds (at root rest pair : ℕ) : Type 0 where
   pub ten : rest * 100 + pair < taken root 10
 
 -- n pairs are one more than m
-record More (n unit : ℕ) : Type 0 where
+record More (n : ℕ) : Type 0 where
   m : ℕ
   one : n ≡ suc m
-  power : unit ≡ 100 ^ m
 
-more_by : (n : ℕ) {unit : ℕ} → 0 < unit → unit ≡ 100 ^ n / 100 → More n unit
-more_by zero l e = absurd (omega (arith, pow-zero 100))
-more_by (suc m) l e = record { m = m; one = refl; power = omega (arith, pow-suc 100 m) }
+more_by : (n : ℕ) → 0 < n → More n
+more_by zero l = absurd (omega arith)
+more_by (suc m) l = record { m = m; one = refl }
 
-first_pair : {n m unit : ℕ} (later : ℕ) → n ≡ suc m → unit ≡ 100 ^ m → pairs n later ≡ later / unit ∷ pairs m (later % unit)
+first_pair : (h m : ℕ) → pairs (suc m) (h % 100 ^ suc m) ≡ h / 100 ^ m % 100 ∷ pairs m (h % 100 ^ m)
 unfolding pairs
-first_pair later e f = rw (e, f) refl
+first_pair h m = rw (pair_at h m, pairs_behind h m) refl
 
-module _ {h at root rest later unit : ℕ} {steps : List Step} (fits : h < 2 ^ 64) (some : 0 < unit) (s : Sofar h steps at root rest later unit) where
-  more : More s.n unit
-  more = more_by s.n some s.place
+-- of the first `count` of ten places in which the pairs stand, the next one
+module _ {h count at root rest : ℕ} (parted : List ℕ) {steps : List Step} (fits : h < 2 ^ 64) (some : at < length (take count parted))
+    (s : Sofar h steps count at root rest) (here : (k j : ℕ) → k + suc j ≡ count → slice_index parted k ≡ h / 100 ^ j % 100) where
+  abbrev pair : ℕ
+  pair = get_or (take count parted) at 0
 
-  all : 100 ^ s.n ≡ unit * 100
-  all = ap (λ (k : ℕ). 100 ^ k) more.one ∙ pow-suc 100 more.m ∙ ap (λ (u : ℕ). u * 100) (sym more.power)
+  inside : at < count
+  inside = omega (arith, some, length-take count parted)
 
-  two : later / unit < 100
-  two = rw more.power (two_digits more.m later (rw more.one at s.below))
+  more : More s.n
+  more = more_by s.n (omega (arith, s.left, inside))
 
-  here : at < 10
-  here = omega (arith, s.room, more.one)
+  is : pair ≡ h / 100 ^ more.m % 100
+  is = get_or-take count parted at 0 inside ∙ here at more.m (omega (arith, s.left, more.one))
+
+  two : pair < 100
+  two = omega (arith, is)
+
+  worked : Worked (h / 100 ^ more.m / 100) root rest
+  worked = rw one_on (rw more.one at s.worked)
 
   -- what keeps each number of a step small
-  pub bounds : Bounds at root rest (later / unit)
+  pub bounds : Bounds at root rest pair
   bounds = record {
-    at_top = here;
-    root_top = root_small {part = s.part} (omega (arith, le-mul_of_pos_right s.part (hundred_some s.n), s.whole)) s.worked;
+    at_top = omega (arith, s.room, inside);
+    root_top = root_small {part = h / 100 ^ s.n} (omega (arith, div-le_self h (100 ^ s.n))) s.worked;
     rest_top = s.worked.left;
     pair_top = two;
     ten = no_ten two s.worked;
   }
 
   abbrev digit_here : ℕ
-  digit_here = digit_of root (rest * 100 + later / unit)
+  digit_here = digit_of root (rest * 100 + pair)
 
   abbrev rest_after : ℕ → ℕ
-  rest_after d = rest * 100 + later / unit - taken root d
+  rest_after d = rest * 100 + pair - taken root d
 
   abbrev step_by : ℕ → Step
-  step_by d = record { pair = later / unit; digit = d; rest = rest_after d }
+  step_by d = record { pair = pair; digit = d; rest = rest_after d }
 
-  one_more : step_by digit_here ∷ steps_from (10 * root + digit_here) (rest_after digit_here) (pairs more.m (later % unit)) ≡ steps_from root rest (pairs s.n later)
+  worked_on : Worked (h / 100 ^ more.m) (10 * root + digit_here) (rest_after digit_here)
+  worked_on =
+      let e : h / 100 ^ more.m / 100 * 100 + pair ≡ h / 100 ^ more.m = omega (arith, is) in
+      rw e at (stepped two worked)
+
+  to_come : pairs s.n (h % 100 ^ s.n) ≡ pair ∷ pairs more.m (h % 100 ^ more.m)
+  to_come =
+      ap (λ (n : ℕ). pairs n (h % 100 ^ n)) more.one ∙ first_pair h more.m ∙ ap (λ (p : ℕ). p ∷ pairs more.m (h % 100 ^ more.m)) (sym is)
+
+  one_more : step_by digit_here ∷ steps_from (10 * root + digit_here) (rest_after digit_here) (pairs more.m (h % 100 ^ more.m))
+      ≡ steps_from root rest (pairs s.n (h % 100 ^ s.n))
   unfolding steps_from
-  one_more = ap (λ (l : List ℕ). steps_from root rest l) (sym (first_pair later more.one more.power))
+  one_more = ap (λ (l : List ℕ). steps_from root rest l) (sym to_come)
 
   set_here : (step : Step) → set steps at step ≡ (s.done ++ (step ∷ [])) ++ replicate (10 - (at + 1)) none
   set_here step =
-      let last : 10 - at ≡ suc (10 - (at + 1)) = omega (arith, here) in
+      let last : 10 - at ≡ suc (10 - (at + 1)) = omega (arith, s.room, inside) in
       let free : List Step = replicate (10 - (at + 1)) none in
       rw (s.filled, last) (set_at s.done none free step at s.many ∙ sym (append_snoc s.done step free))
 
-  go_on : Sofar h (set steps at (step_by digit_here)) (at + 1) (10 * root + digit_here) (rest_after digit_here) (later % unit) (unit / 100)
+  go_on : Sofar h (set steps at (step_by digit_here)) count (at + 1) (10 * root + digit_here) (rest_after digit_here)
   go_on = record {
     n = more.m;
-    place = ap (λ (u : ℕ). u / 100) more.power;
-    below = rw (← more.power) (mod-lt later some);
-    part = s.part * 100 + later / unit;
-    whole = rw (← more.power) (omega (arith, rw all at s.whole, div-add-mod' later unit));
-    worked = stepped two s.worked;
-    room = omega (arith, s.room, more.one);
+    left = omega (arith, s.left, more.one);
+    worked = worked_on;
+    room = s.room;
     done = s.done ++ (step_by digit_here ∷ []);
     many = omega (arith, length-append s.done (step_by digit_here ∷ []), s.many);
     filled = set_here (step_by digit_here);
     rows = append_assoc s.done (step_by digit_here ∷ []) _ ∙ ap (λ (l : List Step). s.done ++ l) one_more ∙ s.rows;
   }
 
-  pub next : {d : ℕ} → d ≡ digit_here → Sofar h (set steps at (step_by d)) (at + 1) (10 * root + d) (rest_after d) (later % unit) (unit / 100)
+  pub next : {d : ℕ} → d ≡ digit_here → Sofar h (set steps at (step_by d)) count (at + 1) (10 * root + d) (rest_after d)
   next e = rw e go_on
-
-no_more : (n : ℕ) {unit : ℕ} → unit ≤ 0 → unit ≡ 100 ^ n / 100 → n ≡ 0
-no_more zero l e = refl
-no_more (suc m) l e = absurd (omega (arith, pow-suc 100 m, hundred_some m))
 
 answer : (h : ℕ) {at root : ℕ} {done steps : List Step} → root ≡ root_of h → done ≡ steps_of h → length done ≡ at → steps ≡ done ++ replicate (10 - at) none
     → ◌≡◌ {A = Working} (record { root = root; count = at; steps = steps }) (school_of h)
 answer h r d m f = rw (r, f, ← m, d) refl
 
-pub finish : {h at root rest later unit : ℕ} {steps : List Step} → unit ≤ 0 → Sofar h steps at root rest later unit
-    → ◌≡◌ {A = Working} (record { root = root; count = at; steps = steps }) (school_of h)
+pub finish : {h count at root rest : ℕ} (parted : List ℕ) {steps : List Step} → length parted ≡ 10 → length (take count parted) ≤ at
+    → Sofar h steps count at root rest
+    → ◌≡◌ {A = Working} (record { root = root; count = count; steps = steps }) (school_of h)
 unfolding pairs steps_from
-finish {h} {at} {root} {rest} {later} l s =
-    let e : s.n ≡ 0 = no_more s.n l s.place in
-    let b : later < 100 ^ 0 = rw e at s.below in
-    let w : s.part * 100 ^ 0 + later ≡ h = rw e at s.whole in
-    let part : s.part ≡ h = omega (arith, b, w) in
-    let rows : s.done ++ steps_from root rest (pairs 0 later) ≡ steps_of h = rw e at s.rows in
-    answer h (worked_root (rw part at s.worked)) (sym (append-nil s.done) ∙ rows) s.many s.filled
+finish {h} {count} {at} {root} {rest} parted ten l s =
+    let none_left : s.n ≡ 0 = omega (arith, s.left, s.room, length-take count parted, ten, l) in
+    let last : at ≡ count = omega (arith, s.left) in
+    let whole : Worked (h / 100 ^ 0) root rest = rw none_left at s.worked in
+    let rows : s.done ++ steps_from root rest (pairs 0 (h % 100 ^ 0)) ≡ steps_of h = rw none_left at s.rows in
+    answer h (worked_root (rw (div-one h) at whole)) (sym (append-nil s.done) ∙ rows) (s.many ∙ last) (rw last at s.filled)

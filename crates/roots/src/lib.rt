@@ -1,7 +1,7 @@
 // The whole-number square root by the school method: two decimal digits of a number for each digit of its root, from the left.
 #![tactic(auto)]
 
-ghost use Rattle.std.specs.Prelude.{◌≡◌, ◌^◌, ◌<◌};
+ghost use Rattle.std.specs.Prelude.{ℕ, suc, ◌+◌, ◌*◌, ◌/◌, ◌%◌, ◌≤◌, slice_index, ◌≡◌, ◌^◌, ◌<◌};
 ghost use Rattle.roots.specs.Root.{root_of};
 ghost use Rattle.roots.specs.School.{behind_first, taken, digit_of, school_of};
 
@@ -10,7 +10,7 @@ pub const MOST_PAIRS: usize = 10;
 
 // A pair of digits, the digit of the root that is found for it, and what is left of all digits brought down so far.
 #[repr(C)]
-#[derive(Clone, Copy)]
+#[derive(Clone, Copy, Default)]
 pub struct Step {
     pub pair: u64,
     pub digit: u64,
@@ -34,6 +34,7 @@ fn digit(root: u64, rest: u64) -> u64
     ensures { result ≡ digit_of root rest }
 {
     let t = 20 * root;
+    // Kept: a search downward that ends after three turns at the most; as `rev` and `find` on a range it would answer an `Option`.
     let mut d = (rest + 25) / (t + 10);
     while rest < (t + d) * d {
         d -= 1;
@@ -41,35 +42,39 @@ fn digit(root: u64, rest: u64) -> u64
     d
 }
 
-// The unit of the first pair of digits, a power of 100. It is held to h / 100, since 100^10 does not fit.
-fn first_unit(h: u64) -> u64
-    ensures { result ≡ 100 ^ behind_first h }
+// How many pairs of digits stand behind the first; 0 has one pair, as 1 has.
+fn behind_first(h: u64) -> u32
+    ensures { result ≡ behind_first h }
 {
-    let most = h / 100;
-    let mut unit: u64 = 1;
-    while unit <= most {
-        unit *= 100;
+    h.max(1).ilog(100)
+}
+
+// The `count` pairs of digits of a number, the first one left; they are parted from the right.
+// Kept: `iter_mut` and `rev` give the places without their numbers, which the invariant speaks of.
+fn parted(h: u64, count: usize) -> [u64; MOST_PAIRS]
+    requires { count ≤ 10 }
+    ensures { (k j : ℕ) → k + suc j ≡ count → slice_index result k ≡ h / 100 ^ j % 100 }
+{
+    let mut pairs = [0; MOST_PAIRS];
+    let mut left = h;
+    for at in (0..count).rev() {
+        pairs[at] = left % 100;
+        left /= 100;
     }
-    unit
+    pairs
 }
 
 // The root of a number and the steps that lead to it, as they are taught.
 pub fn steps(h: u64) -> Working
     ensures { result ≡ school_of h }
 {
-    let mut steps = [Step {
-        pair: 0,
-        digit: 0,
-        rest: 0,
-    }; MOST_PAIRS];
-    let mut at: usize = 0;
+    let count = behind_first(h) as usize + 1;
+    let pairs = parted(h, count);
+    let mut steps = [Step::default(); MOST_PAIRS];
     let mut root: u64 = 0;
     let mut rest: u64 = 0;
-    let mut later = h;
-    let mut unit = first_unit(h);
-    while 0 < unit {
+    for (at, &pair) in pairs[..count].iter().enumerate() {
         // bring down two digits
-        let pair = later / unit;
         let brought = rest * 100 + pair;
         // find the digit
         let d = digit(root, brought);
@@ -82,13 +87,10 @@ pub fn steps(h: u64) -> Working
             digit: d,
             rest,
         };
-        at += 1;
-        later = later % unit;
-        unit = unit / 100;
     }
     Working {
         root,
-        count: at as u64,
+        count: count as u64,
         steps,
     }
 }
@@ -97,6 +99,5 @@ pub fn steps(h: u64) -> Working
 pub fn root(h: u64) -> u64
     ensures { result ≡ root_of h }
 {
-    let s = steps(h);
-    s.root
+    steps(h).root
 }

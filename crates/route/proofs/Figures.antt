@@ -1,7 +1,8 @@
 -- The document's rules of the route text as figures: short texts and what the paper says of them. The numbers are the document's own, without names.
 -- Assumes nothing.
-use Rattle.std.specs.Prelude.{◌≡◌, refl, [], ◌∷◌, ℕ, pos, neg_ℤ}
+use Rattle.std.specs.Prelude.{◌≡◌, refl, [], ◌∷◌, ℕ, pos, neg_ℤ, Ok, Err}
 use Prim.Native.String.{String}
+use Rattle.refusals.specs.declared.Refusal.TheVariants as R
 use Rattle.points.specs.Points.{count}
 use Rattle.globe.specs.Measure.{length_up_to, leg_into}
 use Rattle.numbers.specs.declared.Mark.TheVariants as M
@@ -112,8 +113,8 @@ orders =
 
 -- "at most 1,000 such lines", and 9 before the fields
 pub record Thousand (w : Seen) : Type 0 where
-  pub the_1000th : count w.points ≡ 999 → line_of M.Point w (bytes "p\t0\t0") ≡ L.Point (pos 0) (pos 0)
-  pub the_1001st : count w.points ≡ 1_000 → line_of M.Point w (bytes "p\tx\t0") ≡ L.Refused 9
+  pub the_1000th : count w.points ≡ 999 → line_of M.Point w (bytes "p\t0\t0") ≡ Ok (L.Point (pos 0) (pos 0))
+  pub the_1001st : count w.points ≡ 1_000 → line_of M.Point w (bytes "p\tx\t0") ≡ Err R.Points
 
 pub thousand : (w : Seen) → Thousand w
 unfolding line_of point_of number_of

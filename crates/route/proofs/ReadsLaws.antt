@@ -1,29 +1,28 @@
 -- Laws of lines that were read: what they tell of the line before and of each other, how many points they leave, and where each of them stands.
 -- Assumes nothing.
-use Rattle.std.specs.Prelude.{◌≡◌, refl, true, false, ◌||◌, List, [], ◌∷◌, ◌++◌, ℕ, ◌+◌, ◌*◌, ◌≤◌, ◌<◌, eqb, leb, ℤ, pos, nat_abs, length, if◌then◌else◌}
-use Rattle.std.proofs.Common.{sym, ap, ◌∙◌, append_assoc, arith, eqb-true, eq-eqb, ne_eqb, le-leb, length-append}
+use Rattle.std.specs.Prelude.{◌≡◌, refl, true, false, ◌||◌, List, [], ◌∷◌, ◌++◌, ℕ, ◌+◌, ◌*◌, ◌≤◌, ◌<◌, eqb, leb, ℤ, pos, nat_abs, length, if◌then◌else◌, Result, Ok, Option, Some, None}
+use Rattle.std.proofs.Common.{sym, ap, ◌∙◌, append_assoc, arith, eq-eqb, ne_eqb, le-leb, length-append}
 use Prim.Native.Char.{code}
-use Rattle.refusals.specs.Refusal.{ROOM}
+use Rattle.refusals.specs.declared.Refusal.{Refusal}
+use Rattle.refusals.specs.declared.Refusal.TheVariants as R
 use Rattle.refusals.specs.Choice.{unless}
 use Rattle.refusals.specs.Tests.{by_test, clash}
 use Rattle.points.specs.Points.{count, point_numbers}
 use Rattle.numbers.specs.declared.Mark.{Mark}
 use Rattle.numbers.specs.declared.Mark.TheVariants as M
 use Rattle.numbers.specs.declared.Kind.TheVariants as K
-use Rattle.numbers.specs.declared.Number.TheVariants as N
 use Rattle.numbers.specs.Number.{number_of}
 use Rattle.numbers.specs.Pieces.{LF, TAB, split, is_byte}
 use Rattle.numbers.proofs.PieceLaws.{same_is}
-use Rattle.route.specs.declared.Header.TheVariants as H
-use Rattle.route.specs.declared.Target.{Target}
-use Rattle.route.specs.declared.Target.TheVariants as T
 use Rattle.route.specs.declared.lines.Line.{Line}
 use Rattle.route.specs.declared.lines.Line.TheVariants as L
-use Rattle.route.specs.Line.{Seen, fresh, line_of, third_of, after_of}
+use Rattle.route.specs.declared.lines.Before.{Before}
+use Rattle.route.specs.declared.lines.Before.TheVariants as B
+use Rattle.route.specs.Line.{Seen, same_kind, fresh, line_of, third_of, after_of}
 use Rattle.route.specs.LineLaws.{LineSays}
-use Rattle.route.proofs.LineLaws.{line_says}
+use Rattle.route.proofs.LineLaws.{same_kind_true, same_kind_same, line_says}
 use Rattle.route.specs.LineLaws as Says
-use Rattle.route.specs.Route.{most_bytes, Walk, refused, accepted, on_line, walk_from, walk_of}
+use Rattle.route.specs.Route.{most_bytes, refused, accepted, on_line, walk_from, walk_of}
 use Rattle.route.specs.WalkLaws.{header_of}
 use Rattle.route.proofs.WalkLaws.{walk_cons, lines_header}
 use Rattle.route.specs.Words.{piece, past, last, header_text, field, is_p_line, is_g_line, is_t_line, p_lines_of, Reads}
@@ -37,36 +36,36 @@ byte_apart b c k t n = ap (is_byte c) (same_is k (b ∷ []) t) ∙ rw n
 
 -- what w says of the line before, which is s
 pub record Told (w : Seen) (s : List ℕ) : Type 0 where
-  pub p : is_p_line s ≡ eqb w.before (code "p")
-  pub g : is_g_line s ≡ eqb w.before (code "g")
-  pub t : is_t_line s ≡ eqb w.before (code "t")
+  pub p : is_p_line s ≡ same_kind w.before B.Point
+  pub g : is_g_line s ≡ same_kind w.before B.Gap
+  pub t : is_t_line s ≡ same_kind w.before B.Target
 
 pub header_told : (mark : Mark) → Told fresh (header_text mark)
 header_told M.Point = record { p = refl; g = refl; t = refl }
 header_told M.Comma = record { p = refl; g = refl; t = refl }
 
-record Kind (b : ℕ) (fields : List (List ℕ)) : Type 0 where
-  p : is_byte (code "p") (piece 0 fields) ≡ eqb b (code "p")
-  g : is_byte (code "g") (piece 0 fields) ≡ eqb b (code "g")
-  t : is_byte (code "t") (piece 0 fields) ≡ eqb b (code "t")
+record Kind (b : Before) (fields : List (List ℕ)) : Type 0 where
+  p : is_byte (code "p") (piece 0 fields) ≡ same_kind b B.Point
+  g : is_byte (code "g") (piece 0 fields) ≡ same_kind b B.Gap
+  t : is_byte (code "t") (piece 0 fields) ≡ same_kind b B.Target
 
-target_kind : {mark : Mark} {b n mm : ℕ} {fields : List (List ℕ)} → LineSays mark b n fields (L.Target mm) → Kind (code "t") fields
+target_kind : {mark : Mark} {b : Before} {n mm : ℕ} {fields : List (List ℕ)} → LineSays mark b n fields (Ok (L.Target mm)) → Kind B.Target fields
 target_kind (Says.target {k = k} i r e) = record { p = byte_apart (code "t") (code "p") k i refl; g = byte_apart (code "t") (code "g") k i refl; t = i }
 
-point_kind : {mark : Mark} {b n : ℕ} {lat lon : ℤ} {fields : List (List ℕ)} → LineSays mark b n fields (L.Point lat lon) → Kind (code "p") fields
+point_kind : {mark : Mark} {b : Before} {n : ℕ} {lat lon : ℤ} {fields : List (List ℕ)} → LineSays mark b n fields (Ok (L.Point lat lon)) → Kind B.Point fields
 point_kind (Says.point {k = k} i q y x) = record { p = i; g = byte_apart (code "p") (code "g") k i refl; t = byte_apart (code "p") (code "t") k i refl }
 
-gap_kind : {mark : Mark} {b n : ℕ} {fields : List (List ℕ)} → LineSays mark b n fields L.Gap → Kind (code "g") fields
+gap_kind : {mark : Mark} {b : Before} {n : ℕ} {fields : List (List ℕ)} → LineSays mark b n fields (Ok L.Gap) → Kind B.Gap fields
 gap_kind (Says.gap {k = k} i r) = record { p = byte_apart (code "g") (code "p") k i refl; g = i; t = byte_apart (code "g") (code "t") k i refl }
 
 module _ (mark : Mark) (w : Seen) (s : List ℕ) where
-  target_told : {mm : ℕ} → line_of mark w s ≡ L.Target mm → Told (after_of w (L.Target mm)) s
+  target_told : {mm : ℕ} → line_of mark w s ≡ Ok (L.Target mm) → Told (after_of w (L.Target mm)) s
   target_told e = let k = target_kind (rw e at (line_says mark w s)) in record { p = k.p; g = k.g; t = k.t }
 
-  point_told : {lat lon : ℤ} → line_of mark w s ≡ L.Point lat lon → Told (after_of w (L.Point lat lon)) s
+  point_told : {lat lon : ℤ} → line_of mark w s ≡ Ok (L.Point lat lon) → Told (after_of w (L.Point lat lon)) s
   point_told e = let k = point_kind (rw e at (line_says mark w s)) in record { p = k.p; g = k.g; t = k.t }
 
-  gap_told : line_of mark w s ≡ L.Gap → Told (after_of w L.Gap) s
+  gap_told : line_of mark w s ≡ Ok L.Gap → Told (after_of w L.Gap) s
   gap_told e = let k = gap_kind (rw e at (line_says mark w s)) in record { p = k.p; g = k.g; t = k.t }
 
 -- what the last line left is told of it; p is the line before them all
@@ -95,8 +94,8 @@ pub record AtPoint (mark : Mark) (w v : Seen) (p : List ℕ) (ls : List (List �
   pub u : Seen
   pub lat : ℤ
   pub lon : ℤ
-  pub latitude : number_of K.Latitude mark (field 1 s) ≡ N.Value lat
-  pub longitude : number_of K.Longitude mark (field 2 s) ≡ N.Value lon
+  pub latitude : number_of K.Latitude mark (field 1 s) ≡ Ok lat
+  pub longitude : number_of K.Longitude mark (field 2 s) ≡ Ok lon
   pub told : Told u (last (p ∷ ls))
   pub sound : Sound u
   pub counted : count u.points ≡ count w.points + p_lines_of ls
@@ -104,10 +103,10 @@ pub record AtPoint (mark : Mark) (w v : Seen) (p : List ℕ) (ls : List (List �
   pub all : v.points ≡ u.points ++ (point_numbers lat lon (third_of u.before) ++ more)
 
 record Numbers (mark : Mark) (fields : List (List ℕ)) (lat lon : ℤ) : Type 0 where
-  latitude : number_of K.Latitude mark (piece 1 fields) ≡ N.Value lat
-  longitude : number_of K.Longitude mark (piece 2 fields) ≡ N.Value lon
+  latitude : number_of K.Latitude mark (piece 1 fields) ≡ Ok lat
+  longitude : number_of K.Longitude mark (piece 2 fields) ≡ Ok lon
 
-point_numbers_lem : {mark : Mark} {b n : ℕ} {lat lon : ℤ} {fields : List (List ℕ)} → LineSays mark b n fields (L.Point lat lon) → Numbers mark fields lat lon
+point_numbers_lem : {mark : Mark} {b : Before} {n : ℕ} {lat lon : ℤ} {fields : List (List ℕ)} → LineSays mark b n fields (Ok (L.Point lat lon)) → Numbers mark fields lat lon
 point_numbers_lem (Says.point i q y x) = record { latitude = y; longitude = x }
 
 -- one line further back
@@ -169,13 +168,13 @@ module _ {mark : Mark} (s : List ℕ) (more : List (List ℕ)) (i : is_p_line s 
 pub third_number : (u : Seen) (l : List ℕ) (i : ℕ) → Sound u → Told u l → count u.points ≡ i
     → third_of u.before ≡ (if eqb i 0 || is_g_line l then pos 1 else pos 0)
 third_number u l i h t c =
-    by_test (eqb u.before (code "p"))
+    by_test (same_kind u.before B.Point)
     (λ p.
-    let q = eqb-true u.before (code "p") p in
+    let q = same_kind_true u.before B.Point p in
     let n : eqb i 0 ≡ false = ne_eqb i 0 (λ z. omega (arith, h.some q)) in
     rw (n, t.g, q))
     (λ p.
-    by_test (eqb u.before (code "g"))
+    by_test (same_kind u.before B.Gap)
     (λ g.
     by_test (eqb i 0)
     (λ n. rw (p, n))
@@ -189,26 +188,26 @@ third_number u l i h t c =
 -- of the fields of a `t` line
 pub record Said (mark : Mark) (fields : List (List ℕ)) (mm : ℕ) : Type 0 where
   pub metres : ℤ
-  pub number : number_of K.Target mark (piece 1 fields) ≡ N.Value metres
+  pub number : number_of K.Target mark (piece 1 fields) ≡ Ok metres
   pub millimetres : mm ≡ 1_000 * nat_abs metres
 
-target_number : {mark : Mark} {b n mm : ℕ} {fields : List (List ℕ)} → LineSays mark b n fields (L.Target mm) → Said mark fields mm
+target_number : {mark : Mark} {b : Before} {n mm : ℕ} {fields : List (List ℕ)} → LineSays mark b n fields (Ok (L.Target mm)) → Said mark fields mm
 target_number (Says.target {v = v} i r e) = record { metres = v; number = e; millimetres = refl }
 
-target_second : {P : Type 0} {mark : Mark} {b n mm : ℕ} {fields : List (List ℕ)} → LineSays mark b n fields (L.Target mm) → eqb b (code "r") ≡ false → P
-target_second {b = b} (Says.target i r e) h = clash (eq-eqb b (code "r") r) h
+target_second : {P : Type 0} {mark : Mark} {b : Before} {n mm : ℕ} {fields : List (List ℕ)} → LineSays mark b n fields (Ok (L.Target mm)) → same_kind b B.Header ≡ false → P
+target_second {b = b} (Says.target i r e) h = clash (same_kind_same b B.Header r) h
 
 -- once a line was read, the target stays
-later_same : {mark : Mark} {w v : Seen} {ls : List (List ℕ)} → Reads mark w ls v → eqb w.before (code "r") ≡ false → v.target ≡ w.target
+later_same : {mark : Mark} {w v : Seen} {ls : List (List ℕ)} → Reads mark w ls v → same_kind w.before B.Header ≡ false → v.target ≡ w.target
 later_same Words.none h = refl
 later_same {mark} (Words.target {w = w} {s = s} e r) h = target_second (rw e at (line_says mark w s)) h
 later_same (Words.point e r) h = later_same r refl
 later_same (Words.gap e r) h = later_same r refl
 
 -- the target is what line 2 says, and none where it is no `t` line
-pub data TargetIs (mark : Mark) (s : List ℕ) : Target → Type 0 where
-  some : {mm : ℕ} → is_t_line s ≡ true → Said mark (split TAB s) mm → TargetIs mark s (T.Millimetres mm)
-  none : is_t_line s ≡ false → TargetIs mark s T.None
+pub data TargetIs (mark : Mark) (s : List ℕ) : Option ℕ → Type 0 where
+  some : {mm : ℕ} → is_t_line s ≡ true → Said mark (split TAB s) mm → TargetIs mark s (Some mm)
+  none : is_t_line s ≡ false → TargetIs mark s None
 
 pub target_is : {mark : Mark} {v : Seen} {ls : List (List ℕ)} → Reads mark fresh ls v → TargetIs mark (piece 0 (ls ++ ([] ∷ []))) v.target
 target_is Words.none = none refl
@@ -224,13 +223,12 @@ some_pieces [] = omega arith
 some_pieces (s ∷ ss) = omega arith
 
 module _ (mark : Mark) (room k : ℕ) (w v : Seen) (s : List ℕ) (ls : List (List ℕ)) where
-  goes_on : (l : Line) → line_of mark w s ≡ l → ((next : Walk) → on_line k l next ≡ next)
+  goes_on : (l : Line) → line_of mark w s ≡ Ok l
       → walk_from mark room (k + 1) (after_of w l) (ls ++ ([] ∷ [])) ≡ walk_from mark room (k + 1 + length ls) v ([] ∷ [])
       → walk_from mark room k w (s ∷ (ls ++ ([] ∷ []))) ≡ walk_from mark room (k + length (s ∷ ls)) v ([] ∷ [])
-  goes_on l e f h =
+  goes_on l e h =
       walk_cons mark room k w s (ls ++ ([] ∷ [])) (some_pieces ls) ∙
-      ap (λ (x : Line). on_line k x (walk_from mark room (k + 1) (after_of w x) (ls ++ ([] ∷ [])))) e ∙
-      f _ ∙
+      ap (λ (x : Result Line Refusal). on_line k x (λ y. walk_from mark room (k + 1) (after_of w y) (ls ++ ([] ∷ [])))) e ∙
       h ∙
       ap (λ (n : ℕ). walk_from mark room n v ([] ∷ [])) (omega arith)
 
@@ -238,18 +236,18 @@ module _ (mark : Mark) (room k : ℕ) (w v : Seen) (s : List ℕ) (ls : List (Li
 pub walk_end : {mark : Mark} {w v : Seen} {ls : List (List ℕ)} (room k : ℕ) → Reads mark w ls v
     → walk_from mark room k w (ls ++ ([] ∷ [])) ≡ walk_from mark room (k + length ls) v ([] ∷ [])
 walk_end {mark} room k (Words.none {w = w}) = ap (λ (n : ℕ). walk_from mark room n w ([] ∷ [])) (omega arith)
-walk_end {mark} room k (Words.target {w = w} {v = v} {s = s} {ss = ss} e r) = goes_on mark room k w v s ss _ e (λ next. refl) (walk_end room (k + 1) r)
-walk_end {mark} room k (Words.point {w = w} {v = v} {s = s} {ss = ss} e r) = goes_on mark room k w v s ss _ e (λ next. refl) (walk_end room (k + 1) r)
-walk_end {mark} room k (Words.gap {w = w} {v = v} {s = s} {ss = ss} e r) = goes_on mark room k w v s ss _ e (λ next. refl) (walk_end room (k + 1) r)
+walk_end {mark} room k (Words.target {w = w} {v = v} {s = s} {ss = ss} e r) = goes_on mark room k w v s ss _ e (walk_end room (k + 1) r)
+walk_end {mark} room k (Words.point {w = w} {v = v} {s = s} {ss = ss} e r) = goes_on mark room k w v s ss _ e (walk_end room (k + 1) r)
+walk_end {mark} room k (Words.gap {w = w} {v = v} {s = s} {ss = ss} e r) = goes_on mark room k w v s ss _ e (walk_end room (k + 1) r)
 
-header_names : (mark : Mark) → header_of (header_text mark) ≡ H.Names mark
+header_names : (mark : Mark) → header_of (header_text mark) ≡ Some mark
 unfolding header_of
 header_names M.Point = refl
 header_names M.Comma = refl
 
 -- of a text
 pub text_walk : {mark : Mark} {v : Seen} {ls : List (List ℕ)} (text : List ℕ) (room : ℕ) → length text ≤ most_bytes
-    → split LF text ≡ header_text mark ∷ (ls ++ ([] ∷ [])) → Reads mark fresh ls v → eqb v.before (code "g") ≡ false
-    → walk_of text room ≡ unless (leb (length v.points) room) (refused ROOM 0) (accepted v)
+    → split LF text ≡ header_text mark ∷ (ls ++ ([] ∷ [])) → Reads mark fresh ls v → same_kind v.before B.Gap ≡ false
+    → walk_of text room ≡ unless (leb (length v.points) room) (refused R.Room 0) (accepted v)
 unfolding walk_of
 text_walk {mark} {ls = ls} text room h e r g = rw (le-leb (length text) most_bytes h, e, lines_header room (header_text mark) (ls ++ ([] ∷ [])), header_names mark) (walk_end room 2 r ∙ rw g)

@@ -1,11 +1,12 @@
 -- Laws of the lines of a text: why a walk over them comes to what it comes to, and what an accepted one leaves.
 -- Assumes nothing.
-use Rattle.std.specs.Prelude.{◌≡◌, refl, true, false, List, [], ◌∷◌, ◌++◌, ℕ, ◌+◌, ◌-◌, ◌*◌, ◌≤◌, ◌<◌, leb, ltb, eqb, ℤ, length}
-use Rattle.std.proofs.Common.{sym, ap, ◌∙◌, inl, inr, append_assoc, append-nil, arith, ltb-true, ltb-false, leb-true, leb-false, le-leb, eqb-true, length-append}
-use Prim.Native.Char.{code}
-use Rattle.refusals.specs.Refusal.{TEXT, HEADER, LINE, ORDER, ROOM, of_line}
+use Rattle.std.specs.Prelude.{◌≡◌, refl, true, false, List, [], ◌∷◌, ◌++◌, ℕ, ◌+◌, ◌-◌, ◌*◌, ◌≤◌, ◌<◌, leb, ltb, ℤ, length, Result, Ok, Err, Option, Some, None}
+use Rattle.std.proofs.Common.{sym, ap, ◌∙◌, inl, inr, append_assoc, append-nil, arith, ltb-true, ltb-false, leb-true, leb-false, le-leb, length-append}
+use Rattle.refusals.specs.declared.Refusal.{Refusal}
+use Rattle.refusals.specs.declared.Refusal.TheVariants as R
+use Rattle.refusals.specs.Refusal.{of_line}
+use Rattle.refusals.specs.Choice.{fine}
 use Rattle.refusals.specs.Tests.{by_test, clash}
-use Rattle.globe.specs.declared.Length.TheVariants as G
 use Rattle.points.specs.Points.{numbers, count, most_points, point_numbers, fits_after, buffer_refusal}
 use Rattle.points.proofs.PointLaws.{Points, none, next, points_accepted}
 use Rattle.globe.specs.Measure.{length_up_to, measure_of}
@@ -17,13 +18,13 @@ use Rattle.numbers.specs.Pieces.{LF, split, index_of, same}
 use Rattle.numbers.specs.PieceLaws.{onward}
 use Rattle.numbers.proofs.PieceLaws.{split_cut, split_last, split_some, same_is}
 use Rattle.numbers.proofs.NumberLaws.{number_in, latitude_in, longitude_in}
-use Rattle.route.specs.declared.Header.{Header}
-use Rattle.route.specs.declared.Header.TheVariants as H
+use Rattle.route.specs.declared.lines.Before.{Before}
+use Rattle.route.specs.declared.lines.Before.TheVariants as B
 use Rattle.route.specs.declared.lines.Line.{Line}
 use Rattle.route.specs.declared.lines.Line.TheVariants as L
-use Rattle.route.specs.Line.{Seen, fresh, line_of, third_of, after_of}
+use Rattle.route.specs.Line.{Seen, same_kind, fresh, line_of, third_of, after_of}
 use Rattle.route.specs.LineLaws.{LineSays}
-use Rattle.route.proofs.LineLaws.{line_says}
+use Rattle.route.proofs.LineLaws.{line_says, same_kind_true}
 use Rattle.route.specs.LineLaws as Says
 use Rattle.route.specs.Route.{most_bytes, Walk, refused, accepted, on_line, walk_from, lines_of, walk_of}
 use Rattle.route.specs.WalkLaws.{header_of, after_header}
@@ -35,29 +36,29 @@ use Rattle.route.specs.Words as Words
 -- ---- why a walk comes to what it comes to
 
 pub data WalkSays (mark : Mark) (room k : ℕ) (w : Seen) (ss : List (List ℕ)) : Walk → Type 0 where
-  nothing : ss ≡ [] → WalkSays mark room k w ss (refused HEADER 1)
-  bad_line : {n at : ℕ} {ls : List (List ℕ)} {v : Seen} (s t : List ℕ) (more : List (List ℕ)) → ss ≡ ls ++ (s ∷ (t ∷ more)) → at ≡ k + length ls → Reads mark w ls v
-      → line_of mark v s ≡ L.Refused n → of_line n ≡ true → WalkSays mark room k w ss (refused n at)
+  nothing : ss ≡ [] → WalkSays mark room k w ss (refused R.Header 1)
+  bad_line : {n : Refusal} {at : ℕ} {ls : List (List ℕ)} {v : Seen} (s t : List ℕ) (more : List (List ℕ)) → ss ≡ ls ++ (s ∷ (t ∷ more)) → at ≡ k + length ls → Reads mark w ls v
+      → line_of mark v s ≡ Err n → of_line n ≡ true → WalkSays mark room k w ss (refused n at)
   no_lf : {at : ℕ} {ls : List (List ℕ)} {v : Seen} (x : ℕ) (s : List ℕ) → ss ≡ ls ++ ((x ∷ s) ∷ []) → at ≡ k + length ls → Reads mark w ls v
-      → WalkSays mark room k w ss (refused LINE at)
-  last_gap : {at : ℕ} {ls : List (List ℕ)} {v : Seen} → ss ≡ ls ++ ([] ∷ []) → at ≡ k + length ls - 1 → Reads mark w ls v → v.before ≡ code "g"
-      → WalkSays mark room k w ss (refused ORDER at)
-  no_room : {ls : List (List ℕ)} {v : Seen} → ss ≡ ls ++ ([] ∷ []) → Reads mark w ls v → eqb v.before (code "g") ≡ false → room < length v.points
-      → WalkSays mark room k w ss (refused ROOM 0)
-  all_read : {ls : List (List ℕ)} {v : Seen} → ss ≡ ls ++ ([] ∷ []) → Reads mark w ls v → eqb v.before (code "g") ≡ false → length v.points ≤ room
+      → WalkSays mark room k w ss (refused R.Line at)
+  last_gap : {at : ℕ} {ls : List (List ℕ)} {v : Seen} → ss ≡ ls ++ ([] ∷ []) → at ≡ k + length ls - 1 → Reads mark w ls v → v.before ≡ B.Gap
+      → WalkSays mark room k w ss (refused R.Order at)
+  no_room : {ls : List (List ℕ)} {v : Seen} → ss ≡ ls ++ ([] ∷ []) → Reads mark w ls v → same_kind v.before B.Gap ≡ false → room < length v.points
+      → WalkSays mark room k w ss (refused R.Room 0)
+  all_read : {ls : List (List ℕ)} {v : Seen} → ss ≡ ls ++ ([] ∷ []) → Reads mark w ls v → same_kind v.before B.Gap ≡ false → length v.points ≤ room
       → WalkSays mark room k w ss (accepted v)
 
 module _ (mark : Mark) (room k : ℕ) (w : Seen) where
   end_says : WalkSays mark room k w ([] ∷ []) (walk_from mark room k w ([] ∷ []))
   end_says =
-      by_test (eqb w.before (code "g"))
-      (λ t. rw t (last_gap {at = k - 1} {ls = []} refl (omega arith) Words.none (eqb-true w.before (code "g") t)))
+      by_test (same_kind w.before B.Gap)
+      (λ t. rw t (last_gap {at = k - 1} {ls = []} refl (omega arith) Words.none (same_kind_true w.before B.Gap t)))
       (λ t.
       by_test (leb (length w.points) room)
       (λ u. rw (t, u) (all_read {ls = []} refl Words.none t (leb-true (length w.points) room u)))
       (λ u. rw (t, u) (no_room {ls = []} refl Words.none t (leb-false (length w.points) room u))))
 
-line_of_lem : {mark : Mark} {b n r : ℕ} {fields : List (List ℕ)} → LineSays mark b n fields (L.Refused r) → of_line r ≡ true
+line_of_lem : {mark : Mark} {b : Before} {n : ℕ} {r : Refusal} {fields : List (List ℕ)} → LineSays mark b n fields (Err r) → of_line r ≡ true
 line_of_lem (Says.refused o) = o
 
 cons : {s : List ℕ} {ss ts : List (List ℕ)} → ss ≡ ts → s ∷ ss ≡ s ∷ ts
@@ -75,11 +76,11 @@ longer mark room k w v s t ss f (all_read {ls = ls} e r g h) = all_read {ls = s 
 
 module _ (mark : Mark) (room k : ℕ) (w : Seen) (s t : List ℕ) (ss : List (List ℕ)) where
   line_walks : ((v : Seen) → WalkSays mark room (k + 1) v (t ∷ ss) (walk_from mark room (k + 1) v (t ∷ ss)))
-      → (l : Line) → line_of mark w s ≡ l → WalkSays mark room k w (s ∷ (t ∷ ss)) (on_line k l (walk_from mark room (k + 1) (after_of w l) (t ∷ ss)))
-  line_walks h (L.Target mm) e = longer mark room k w _ s t ss (λ ls u r. Words.target e r) (h (after_of w (L.Target mm)))
-  line_walks h (L.Point lat lon) e = longer mark room k w _ s t ss (λ ls u r. Words.point e r) (h (after_of w (L.Point lat lon)))
-  line_walks h L.Gap e = longer mark room k w _ s t ss (λ ls u r. Words.gap e r) (h (after_of w L.Gap))
-  line_walks h (L.Refused n) e = bad_line {at = k} {ls = []} s t ss refl (omega arith) Words.none e (line_of_lem (rw e at (line_says mark w s)))
+      → (a : Result Line Refusal) → line_of mark w s ≡ a → WalkSays mark room k w (s ∷ (t ∷ ss)) (on_line k a (λ l. walk_from mark room (k + 1) (after_of w l) (t ∷ ss)))
+  line_walks h (Ok (L.Target mm)) e = longer mark room k w _ s t ss (λ ls u r. Words.target e r) (h (after_of w (L.Target mm)))
+  line_walks h (Ok (L.Point lat lon)) e = longer mark room k w _ s t ss (λ ls u r. Words.point e r) (h (after_of w (L.Point lat lon)))
+  line_walks h (Ok L.Gap) e = longer mark room k w _ s t ss (λ ls u r. Words.gap e r) (h (after_of w L.Gap))
+  line_walks h (Err r) e = bad_line {at = k} {ls = []} s t ss refl (omega arith) Words.none e (line_of_lem (rw e at (line_says mark w s)))
 
 pub walk_says : (mark : Mark) (room k : ℕ) (w : Seen) (ss : List (List ℕ)) → WalkSays mark room k w ss (walk_from mark room k w ss)
 walk_says mark room k w [] = nothing refl
@@ -91,35 +92,35 @@ walk_says mark room k w (s ∷ (t ∷ ss)) = line_walks mark room k w s t ss (λ
 
 pub record Sound (w : Seen) : Type 0 where
   -- behind a `p` line there are points
-  pub some : w.before ≡ code "p" → 1 ≤ count w.points
+  pub some : w.before ≡ B.Point → 1 ≤ count w.points
   -- behind line 1 and a `t` line there are none
-  pub first : eqb w.before (code "p") ≡ false → eqb w.before (code "g") ≡ false → count w.points ≡ 0
+  pub first : same_kind w.before B.Point ≡ false → same_kind w.before B.Gap ≡ false → count w.points ≡ 0
   -- so many numbers a point
   pub whole : length w.points ≡ numbers * count w.points
   pub few : count w.points ≤ most_points
 
 pub fresh_sound : Sound fresh
-fresh_sound = record { some = λ e. absurd (omega arith); first = λ p g. refl; whole = refl; few = omega arith }
+fresh_sound = record { some = λ e. absurd (grind arith); first = λ p g. refl; whole = refl; few = omega arith }
 
 pub one_more : (w : Seen) (lat lon : ℤ) → length (after_of w (L.Point lat lon)).points ≡ length w.points + numbers
 one_more w lat lon = length-append w.points _
 
-room_for : {mark : Mark} {b n : ℕ} {fields : List (List ℕ)} {lat lon : ℤ} → LineSays mark b n fields (L.Point lat lon) → n < most_points
+room_for : {mark : Mark} {b : Before} {n : ℕ} {fields : List (List ℕ)} {lat lon : ℤ} → LineSays mark b n fields (Ok (L.Point lat lon)) → n < most_points
 room_for (Says.point p q y x) = q
 
-second : {mark : Mark} {b n mm : ℕ} {fields : List (List ℕ)} → LineSays mark b n fields (L.Target mm) → b ≡ code "r"
+second : {mark : Mark} {b : Before} {n mm : ℕ} {fields : List (List ℕ)} → LineSays mark b n fields (Ok (L.Target mm)) → b ≡ B.Header
 second (Says.target t r e) = r
 
 module _ (mark : Mark) (w : Seen) (h : Sound w) where
-  pub target_sound : (s : List ℕ) (mm : ℕ) → line_of mark w s ≡ L.Target mm → Sound (after_of w (L.Target mm))
+  pub target_sound : (s : List ℕ) (mm : ℕ) → line_of mark w s ≡ Ok (L.Target mm) → Sound (after_of w (L.Target mm))
   target_sound s mm e =
       let r = second (rw e at (line_says mark w s)) in
-      record { some = λ t. absurd (omega arith); first = λ p g. h.first (rw r) (rw r); whole = h.whole; few = h.few }
+      record { some = λ t. absurd (grind arith); first = λ p g. h.first (rw r) (rw r); whole = h.whole; few = h.few }
 
   pub gap_sound : Sound (after_of w L.Gap)
-  gap_sound = record { some = λ e. absurd (omega arith); first = λ p g. clash refl g; whole = h.whole; few = h.few }
+  gap_sound = record { some = λ e. absurd (grind arith); first = λ p g. clash refl g; whole = h.whole; few = h.few }
 
-  pub point_sound : (s : List ℕ) (lat lon : ℤ) → line_of mark w s ≡ L.Point lat lon → Sound (after_of w (L.Point lat lon))
+  pub point_sound : (s : List ℕ) (lat lon : ℤ) → line_of mark w s ≡ Ok (L.Point lat lon) → Sound (after_of w (L.Point lat lon))
   point_sound s lat lon e =
       let n = one_more w lat lon in
       let q = room_for (rw e at (line_says mark w s)) in
@@ -132,10 +133,10 @@ reads_sound {mark} (Words.point {w = w} {s = s} {lat = lat} {lon = lon} e r) h =
 reads_sound {mark} (Words.gap {w = w} e r) h = reads_sound r (gap_sound mark w h)
 
 -- "1 for the first point and after `g`, else 0"
-third_fits : (before k : ℕ) → (before ≡ code "p" → 1 ≤ k) → fits_after k (third_of before) ≡ true
+third_fits : (before : Before) (k : ℕ) → (before ≡ B.Point → 1 ≤ k) → fits_after k (third_of before) ≡ true
 third_fits before k h =
-    by_test (eqb before (code "p"))
-    (λ t. rw (t, le-leb 1 k (h (eqb-true before (code "p") t))))
+    by_test (same_kind before B.Point)
+    (λ t. rw (t, le-leb 1 k (h (same_kind_true before B.Point t))))
     (λ t. rw t)
 
 -- the points that lines add are points of the globe
@@ -144,7 +145,7 @@ pub record Added (w v : Seen) : Type 0 where
   pub all : v.points ≡ w.points ++ more
   pub points : Points (count w.points) more
 
-pointed : {mark : Mark} {b n : ℕ} {fields : List (List ℕ)} {lat lon third : ℤ} {ps : List ℤ} → LineSays mark b n fields (L.Point lat lon)
+pointed : {mark : Mark} {b : Before} {n : ℕ} {fields : List (List ℕ)} {lat lon third : ℤ} {ps : List ℤ} → LineSays mark b n fields (Ok (L.Point lat lon))
     → fits_after n third ≡ true → Points (n + 1) ps → Points n (point_numbers lat lon third ++ ps)
 pointed (Says.point {s = s} {t = t} {lat = lat} {lon = lon} p q y x) f ps =
     next (latitude_in lat (number_in K.Latitude _ s lat y)) (longitude_in lon (number_in K.Longitude _ t lon x)) f ps
@@ -170,10 +171,10 @@ reads_added {mark} (Words.gap {w = w} e r) h =
 -- of all lines after line 1
 module _ {mark : Mark} {v : Seen} {ls : List (List ℕ)} (r : Reads mark fresh ls v) where
   -- the globe refuses none of the points
-  pub unrefused : buffer_refusal v.points ≡ 0
+  pub unrefused : buffer_refusal v.points ≡ fine
   unrefused = let a = reads_added r fresh_sound in points_accepted (rw (← a.all) at a.points) (reads_sound r fresh_sound).few
 
-  pub measured : measure_of v.points ≡ G.Millimetres (length_up_to v.points (count v.points))
+  pub measured : measure_of v.points ≡ Ok (length_up_to v.points (count v.points))
   measured = accepted_measured v.points unrefused
 
 -- of a walk that is accepted
@@ -181,7 +182,7 @@ pub record AllRead (mark : Mark) (room : ℕ) (ss : List (List ℕ)) (v : Seen) 
   pub lines : List (List ℕ)
   pub pieces : ss ≡ lines ++ ([] ∷ [])
   pub reads : Reads mark fresh lines v
-  pub no_gap : eqb v.before (code "g") ≡ false
+  pub no_gap : same_kind v.before B.Gap ≡ false
   pub fits : length v.points ≤ room
 
 all_of : {mark : Mark} {room k : ℕ} {ss : List (List ℕ)} {v : Seen} → WalkSays mark room k fresh ss (accepted v) → AllRead mark room ss v
@@ -193,9 +194,9 @@ walked mark room k ss e = all_of (rw e at (walk_says mark room k fresh ss))
 -- ---- the whole text
 
 -- what a header tells of line 1
-data HeaderSays (s : List ℕ) : Header → Type 0 where
-  names : (mark : Mark) → s ≡ header_text mark → HeaderSays s (H.Names mark)
-  unknown : ((mark : Mark) → s ≡ header_text mark → ⊥) → HeaderSays s H.Unknown
+data HeaderSays (s : List ℕ) : Option Mark → Type 0 where
+  names : (mark : Mark) → s ≡ header_text mark → HeaderSays s (Some mark)
+  unknown : ((mark : Mark) → s ≡ header_text mark → ⊥) → HeaderSays s None
 
 other : (s : List ℕ) → same s (bytes "route\tpoint") ≡ false → same s (bytes "route\tcomma") ≡ false → (mark : Mark) → s ≡ header_text mark → ⊥
 other s p c M.Point e = clash refl (sym (ap (λ (x : List ℕ). same x (bytes "route\tpoint")) e) ∙ p)
@@ -223,13 +224,13 @@ one_piece text s e =
 
 -- why a text's walk comes to what it comes to
 pub data TextSays (text : List ℕ) (room : ℕ) : Walk → Type 0 where
-  too_long : most_bytes < length text → TextSays text room (refused TEXT 0)
-  no_header : length text ≤ most_bytes → NoHeader text → TextSays text room (refused HEADER 1)
+  too_long : most_bytes < length text → TextSays text room (refused R.Text 0)
+  no_header : length text ≤ most_bytes → NoHeader text → TextSays text room (refused R.Header 1)
   walks : {x : Walk} (mark : Mark) (ss : List (List ℕ)) → length text ≤ most_bytes → split LF text ≡ header_text mark ∷ ss → 0 < length ss
       → WalkSays mark room 2 fresh ss x → TextSays text room x
 
 module _ (text : List ℕ) (room : ℕ) (short : length text ≤ most_bytes) where
-  after_header_lem : (s : List ℕ) (ss : List (List ℕ)) → split LF text ≡ s ∷ ss → {h : Header} → HeaderSays s h → TextSays text room (after_header h room ss)
+  after_header_lem : (s : List ℕ) (ss : List (List ℕ)) → split LF text ≡ s ∷ ss → {h : Option Mark} → HeaderSays s h → TextSays text room (after_header h room ss)
   after_header_lem s ss e (unknown f) = no_header short (inr (λ mark q. f mark (sym (ap (piece 0) e) ∙ q)))
   after_header_lem s [] e (names mark q) = no_header short (inl (one_piece text s e))
   after_header_lem s (t ∷ ss) e (names mark q) = walks mark (t ∷ ss) short (e ∙ ap (λ (x : List ℕ). x ∷ (t ∷ ss)) q) (omega arith) (walk_says mark room 2 fresh (t ∷ ss))

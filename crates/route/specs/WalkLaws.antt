@@ -1,49 +1,47 @@
 -- Laws of the walk over the lines as the code goes it: what is left of the text comes to what the whole text comes to.
 -- Assumes nothing.
-use Rattle.std.specs.Prelude.{List, [], ◌∷◌, ℕ, ◌-◌, ◌*◌, ◌≤◌, leb, eqb, ℤ, if◌then◌else◌}
-use Prim.Native.Char.{code}
-use Rattle.refusals.specs.Refusal.{HEADER, LINE, ORDER, ROOM}
+use Rattle.std.specs.Prelude.{List, [], ◌∷◌, ℕ, ◌-◌, ◌*◌, ◌≤◌, leb, ℤ, if◌then◌else◌, Result, Ok, Err, Option, Some, None}
+use Rattle.refusals.specs.declared.Refusal.TheVariants as R
 use Rattle.refusals.specs.Choice.{unless}
 use Rattle.points.specs.Points.{numbers, most_points}
+use Rattle.numbers.specs.declared.Mark.{Mark}
 use Rattle.numbers.specs.declared.Mark.TheVariants as M
 use Rattle.numbers.specs.Pieces.{same}
-use Rattle.route.specs.declared.Header.{Header}
-use Rattle.route.specs.declared.Header.TheVariants as H
+use Rattle.route.specs.declared.Refused.{Refused}
+use Rattle.route.specs.declared.lines.Before.TheVariants as B
 use Rattle.route.specs.declared.lines.State.{State}
-use Rattle.route.specs.declared.reader.Judged.{Judged}
-use Rattle.route.specs.declared.reader.Judged.TheVariants as J
-use Rattle.route.specs.Line.{fresh}
+use Rattle.route.specs.Line.{same_kind, fresh}
 use Rattle.route.specs.LineLaws.{seen_in}
 use Rattle.route.specs.Route.{Walk, refused, accepted, walk_from}
 use Rattle.numbers.specs.Text.{bytes}
 
 -- what the code has of a walk: the points' numbers stand in a buffer of its own
-abbrev pub came : Judged → List ℤ → Walk
-came (J.Accepted st) own = accepted (seen_in st own)
-came (J.Refused n k) own = refused n k
+abbrev pub came : Result State Refused → List ℤ → Walk
+came (Ok st) own = accepted (seen_in st own)
+came (Err e) own = refused e.refusal e.line
 
 -- and it has no more points than the most
-abbrev pub few_in : Judged → Type 0
-few_in (J.Accepted st) = st.points ≤ most_points
-few_in (J.Refused n k) = Unit
+abbrev pub few_in : Result State Refused → Type 0
+few_in (Ok st) = st.points ≤ most_points
+few_in (Err e) = Unit
 
 -- ---- the end
 
-abbrev pub end_of : ℕ → ℕ → List ℕ → State → Judged
+abbrev pub end_of : ℕ → ℕ → List ℕ → State → Result State Refused
 end_of room line [] st =
-    if eqb st.before (code "g") then J.Refused ORDER (line - 1) else
-    (unless (leb (numbers * st.points) room) (J.Refused ROOM 0)
-    (J.Accepted st))
-end_of room line (x ∷ s) st = J.Refused LINE line
+    if same_kind st.before B.Gap then Err (record { refusal = R.Order; line = line - 1 }) else
+    (unless (leb (numbers * st.points) room) (Err (record { refusal = R.Room; line = 0 }))
+    (Ok st))
+end_of room line (x ∷ s) st = Err (record { refusal = R.Line; line = line })
 
 -- ---- the whole text
 
 -- line 1 as the code reads it
-unfoldable pub header_of : List ℕ → Header
+unfoldable pub header_of : List ℕ → Option Mark
 header_of s =
-    if same s (bytes "route\tpoint") then H.Names M.Point else
-    (if same s (bytes "route\tcomma") then H.Names M.Comma else H.Unknown)
+    if same s (bytes "route\tpoint") then Some M.Point else
+    (if same s (bytes "route\tcomma") then Some M.Comma else None)
 
-abbrev pub after_header : Header → ℕ → List (List ℕ) → Walk
-after_header H.Unknown room ss = refused HEADER 1
-after_header (H.Names mark) room ss = walk_from mark room 2 fresh ss
+abbrev pub after_header : Option Mark → ℕ → List (List ℕ) → Walk
+after_header None room ss = refused R.Header 1
+after_header (Some mark) room ss = walk_from mark room 2 fresh ss

@@ -1,11 +1,13 @@
 -- The words of the promises, apart from the walk: a text's lines, and what they are.
 -- Assumes nothing.
-use Rattle.std.specs.Prelude.{◌≡◌, ◌⊎◌, Bool, true, not, ◌&&◌, List, [], ◌∷◌, ◌++◌, ℕ, ◌+◌, ℤ, length, get_or, if◌then◌else◌}
+use Rattle.std.specs.Prelude.{◌≡◌, ◌⊎◌, Bool, true, not, ◌&&◌, List, [], ◌∷◌, ◌++◌, ℕ, ◌+◌, ℤ, length, get_or, if◌then◌else◌, Ok}
 use Prim.Native.Char.{code}
 use Rattle.numbers.specs.declared.Mark.{Mark}
 use Rattle.numbers.specs.declared.Mark.TheVariants as M
 use Rattle.numbers.specs.Pieces.{LF, TAB, split, holds, is_byte}
 use Rattle.route.specs.declared.ReadingOut.{ReadingOut}
+use Rattle.route.specs.declared.lines.Before.{Before}
+use Rattle.route.specs.declared.lines.Before.TheVariants as B
 use Rattle.route.specs.declared.lines.Line.TheVariants as L
 use Rattle.numbers.specs.Text.{bytes}
 use Rattle.route.specs.Line.{Seen, line_of, after_of}
@@ -66,6 +68,22 @@ is_g_line s = is_byte (code "g") (field 0 s)
 abbrev pub is_t_line : List ℕ → Bool
 is_t_line s = is_byte (code "t") (field 0 s)
 
+-- what the line before is, as another crate names it: the code's own type is not exported
+abbrev pub LineBefore : Type 0
+LineBefore = Before
+
+abbrev pub was_header : LineBefore
+was_header = B.Header
+
+abbrev pub was_target : LineBefore
+was_target = B.Target
+
+abbrev pub was_point : LineBefore
+was_point = B.Point
+
+abbrev pub was_gap : LineBefore
+was_gap = B.Gap
+
 -- how many `p` lines there are
 abbrev pub p_lines_of : List (List ℕ) → ℕ
 p_lines_of [] = 0
@@ -74,8 +92,8 @@ p_lines_of (s ∷ ss) = (if is_p_line s then 1 else 0) + p_lines_of ss
 -- lines one after the other, each read as a target, a point or a gap, judged after the ones before it: from what is seen before them to what they leave
 pub data Reads (mark : Mark) : Seen → List (List ℕ) → Seen → Type 0 where
   none : {w : Seen} → Reads mark w [] w
-  target : {w v : Seen} {s : List ℕ} {ss : List (List ℕ)} {mm : ℕ} → line_of mark w s ≡ L.Target mm → Reads mark (after_of w (L.Target mm)) ss v
+  target : {w v : Seen} {s : List ℕ} {ss : List (List ℕ)} {mm : ℕ} → line_of mark w s ≡ Ok (L.Target mm) → Reads mark (after_of w (L.Target mm)) ss v
       → Reads mark w (s ∷ ss) v
-  point : {w v : Seen} {s : List ℕ} {ss : List (List ℕ)} {lat lon : ℤ} → line_of mark w s ≡ L.Point lat lon → Reads mark (after_of w (L.Point lat lon)) ss v
+  point : {w v : Seen} {s : List ℕ} {ss : List (List ℕ)} {lat lon : ℤ} → line_of mark w s ≡ Ok (L.Point lat lon) → Reads mark (after_of w (L.Point lat lon)) ss v
       → Reads mark w (s ∷ ss) v
-  gap : {w v : Seen} {s : List ℕ} {ss : List (List ℕ)} → line_of mark w s ≡ L.Gap → Reads mark (after_of w L.Gap) ss v → Reads mark w (s ∷ ss) v
+  gap : {w v : Seen} {s : List ℕ} {ss : List (List ℕ)} → line_of mark w s ≡ Ok L.Gap → Reads mark (after_of w L.Gap) ss v → Reads mark w (s ∷ ss) v

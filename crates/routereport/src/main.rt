@@ -3,45 +3,41 @@
 #![tactic(auto)]
 
 use points::MOST_NUMBERS;
-use route::{Reading, Target};
+use route::Route;
 use std::io;
 use std::io::Write;
-use streams::{Input, fail, field, read_route, refused, text};
+use streams::{fail, field, read_route, refused, text};
 
-fn goal<W: Write>(out: &mut W, t: Target) -> io::Result<()> {
-    match t {
-        Target::Millimetres(n) => field(out, n),
-        Target::None => text(out, b"\tnone"),
+fn goal<W: Write>(out: &mut W, target: Option<u64>) -> io::Result<()> {
+    match target {
+        Some(n) => field(out, n),
+        None => text(out, b"\tnone"),
     }
 }
 
-fn report<W: Write>(out: &mut W, reading: Reading) -> io::Result<()> {
-    match reading {
-        Reading::Route {
-            points,
-            length,
-            target,
-        } => {
-            text(out, b"points")?;
-            field(out, points as u64)?;
-            text(out, b"\nlength")?;
-            field(out, length)?;
-            text(out, b"\ntarget")?;
-            goal(out, target)?;
-            text(out, b"\n")
-        }
-        Reading::Refused(refusal, line) => refused(out, refusal, line),
-    }
+fn report<W: Write>(out: &mut W, route: Route) -> io::Result<()> {
+    text(out, b"points")?;
+    field(out, route.points as u64)?;
+    text(out, b"\nlength")?;
+    field(out, route.length)?;
+    text(out, b"\ntarget")?;
+    goal(out, route.target)?;
+    text(out, b"\n")
 }
 
 fn main(rt: HostRuntime) {
     // room for every route
     let mut buffer = [0i32; MOST_NUMBERS];
     let reading = match read_route(&mut rt.reader(), &mut buffer) {
-        Input::Read(reading) => reading,
-        Input::Failed(error) => return fail(&rt, "routereport: standard input", error),
+        Ok(reading) => reading,
+        Err(error) => return fail(&rt, "routereport: standard input", error),
     };
-    if let Err(error) = report(&mut io::writer(&rt), reading) {
+    let mut out = io::writer(&rt);
+    let printed = match reading {
+        Ok(route) => report(&mut out, route),
+        Err(r) => refused(&mut out, r.refusal.number(), r.line),
+    };
+    if let Err(error) = printed {
         fail(&rt, "routereport: standard output", error);
     }
 }

@@ -2,6 +2,9 @@
 -- numbers.
 -- Assumes nothing.
 use Rattle.std.specs.Prelude.{◌≡◌, pos, neg_ℤ}
+use Rattle.std.proofs.Common.{refl}
+use Rattle.refusals.specs.Refusal.{number}
+use Rattle.refusals.specs.declared.Refusal.TheVariants as R
 use Rattle.sines.specs.Table.{entry}
 use Rattle.sines.proofs.Rules.{first, last}
 use Rattle.sines.proofs.Figures.{entry_1, entry_1500}
@@ -63,3 +66,27 @@ figures = record {
   pole_to_pole = G.length_pole_to_pole;
   quarter = G.length_quarter;
 }
+
+-- "Numbers we send back", which promises say by the names of the refusals
+pub record Numbers : Type 0 where
+  pub of_text : number R.Text ≡ 1
+  pub of_header : number R.Header ≡ 2
+  pub of_line : number R.Line ≡ 3
+  pub of_number : number R.Number ≡ 4
+  pub of_mark : number R.Mark ≡ 5
+  pub of_latitude : number R.Latitude ≡ 6
+  pub of_longitude : number R.Longitude ≡ 7
+  pub of_order : number R.Order ≡ 8
+  pub of_points : number R.Points ≡ 9
+  pub of_room : number R.Room ≡ 10
+  pub of_place : number R.Place ≡ 11
+  pub of_window : number R.Window ≡ 12
+  pub of_divisor : number R.Divisor ≡ 13
+  pub of_meridian : number R.Meridian ≡ 14
+  pub of_output : number R.Output ≡ 15
+  pub of_target : number R.Target ≡ 16
+  pub of_buffer : number R.Buffer ≡ 17
+  pub of_course : number R.Course ≡ 18
+
+pub numbers : Numbers
+numbers = record { of_text = refl; of_header = refl; of_line = refl; of_number = refl; of_mark = refl; of_latitude = refl; of_longitude = refl; of_order = refl; of_points = refl; of_room = refl; of_place = refl; of_window = refl; of_divisor = refl; of_meridian = refl; of_output = refl; of_target = refl; of_buffer = refl; of_course = refl }

@@ -7,7 +7,7 @@ ghost use Rattle.std.specs.Prelude.{◌≡◌, length};
 ghost use Rattle.roots.specs.School.{school_of};
 ghost use Rattle.globe.specs.Paper.{sine_paper, place_paper, point_paper, length_paper, direction_paper, met_paper};
 ghost use Rattle.globe.specs.Angle.{long_sine_of, short_sine_of, long_sine_half_of};
-ghost use Rattle.globe.specs.Sheet.{cylindrical_of, sinusoidal_of, cylindrical_back_of, sinusoidal_back_of};
+ghost use Rattle.globe.specs.Sheet.{cylindrical_of, sinusoidal_of, cylindrical_back_of, sinusoidal_back_of, point};
 ghost use Rattle.globe.specs.Leg.{leg_of};
 ghost use Rattle.globe.specs.Measure.{measure_of};
 ghost use Rattle.globe.specs.Course.{course_of};
@@ -19,60 +19,69 @@ ghost use Rattle.pen.specs.Paper.{stepped};
 
 mod out;
 
-use globe::{DirectionOut, LengthOut, MetOut, PlaceOut, PointOut, SineOut};
+use globe::{DirectionOut, LengthOut, MetOut, Place, PlaceOut, Point, PointOut, SineOut};
 use numbers::Mark;
 use numerals::WritingOut;
 use pen::{Pen, StepOut, Window};
 use roots::Working;
-use route::{ReadingOut, Target};
+use route::ReadingOut;
 
 #[unsafe(no_mangle)]
 pub extern "C" fn senruhobi_long_sine(angle: i32) -> SineOut
     ensures { result ≡ sine_paper (long_sine_of angle) }
 {
-    out::sine(globe::long_sine(angle))
+    globe::long_sine(angle).into()
 }
 
 #[unsafe(no_mangle)]
 pub extern "C" fn senruhobi_long_sine_half(halves: i32) -> SineOut
     ensures { result ≡ sine_paper (long_sine_half_of halves) }
 {
-    out::sine(globe::long_sine_half(halves))
+    globe::long_sine_half(halves).into()
 }
 
 #[unsafe(no_mangle)]
 pub extern "C" fn senruhobi_short_sine(angle: i32) -> SineOut
     ensures { result ≡ sine_paper (short_sine_of angle) }
 {
-    out::sine(globe::short_sine(angle))
+    globe::short_sine(angle).into()
+}
+
+fn point(latitude: i32, longitude: i32) -> Point
+    ensures { result ≡ point latitude longitude }
+{
+    Point {
+        latitude,
+        longitude,
+    }
 }
 
 #[unsafe(no_mangle)]
 pub extern "C" fn senruhobi_cylindrical(latitude: i32, longitude: i32, meridian: i32) -> PlaceOut
     ensures { result ≡ place_paper (cylindrical_of latitude longitude meridian) }
 {
-    out::place(globe::cylindrical(latitude, longitude, meridian))
+    globe::cylindrical(point(latitude, longitude), meridian).into()
 }
 
 #[unsafe(no_mangle)]
 pub extern "C" fn senruhobi_sinusoidal(latitude: i32, longitude: i32, meridian: i32) -> PlaceOut
     ensures { result ≡ place_paper (sinusoidal_of latitude longitude meridian) }
 {
-    out::place(globe::sinusoidal(latitude, longitude, meridian))
+    globe::sinusoidal(point(latitude, longitude), meridian).into()
 }
 
 #[unsafe(no_mangle)]
 pub extern "C" fn senruhobi_cylindrical_back(x: i64, y: i64, meridian: i32) -> PointOut
     ensures { result ≡ point_paper (cylindrical_back_of x y meridian) }
 {
-    out::point(globe::cylindrical_back(x, y, meridian))
+    globe::cylindrical_back(Place { x, y }, meridian).into()
 }
 
 #[unsafe(no_mangle)]
 pub extern "C" fn senruhobi_sinusoidal_back(x: i64, y: i64, meridian: i32) -> PointOut
     ensures { result ≡ point_paper (sinusoidal_back_of x y meridian) }
 {
-    out::point(globe::sinusoidal_back(x, y, meridian))
+    globe::sinusoidal_back(Place { x, y }, meridian).into()
 }
 
 #[unsafe(no_mangle)]
@@ -84,7 +93,7 @@ pub extern "C" fn senruhobi_leg(
 ) -> LengthOut
     ensures { result ≡ length_paper (leg_of latitude1 longitude1 latitude2 longitude2) }
 {
-    out::length(globe::leg(latitude1, longitude1, latitude2, longitude2))
+    globe::leg(point(latitude1, longitude1), point(latitude2, longitude2)).into()
 }
 
 #[unsafe(no_mangle)]
@@ -96,7 +105,7 @@ pub extern "C" fn senruhobi_course(
 ) -> DirectionOut
     ensures { result ≡ direction_paper (course_of latitude1 longitude1 latitude2 longitude2) }
 {
-    out::direction(globe::course(latitude1, longitude1, latitude2, longitude2))
+    globe::course(point(latitude1, longitude1), point(latitude2, longitude2)).into()
 }
 
 #[unsafe(no_mangle)]
@@ -111,14 +120,14 @@ pub extern "C" fn senruhobi_root_steps(number: u64) -> Working
 pub extern "C" fn senruhobi_measure(points: &[i32]) -> LengthOut
     ensures { result ≡ length_paper (measure_of points.now) }
 {
-    out::length(globe::measure(points))
+    globe::measure(points).into()
 }
 
 #[unsafe(no_mangle)]
 pub extern "C" fn senruhobi_target_met(points: &[i32], target: u64) -> MetOut
     ensures { result ≡ met_paper (met_of points.now target) }
 {
-    out::met(globe::target_met(points, target))
+    globe::target_met(points, target).into()
 }
 
 #[unsafe(no_mangle)]
@@ -126,17 +135,17 @@ pub extern "C" fn senruhobi_read_route(text: &[u8], buffer: &mut [i32]) -> Readi
     ensures value { result ≡ reading_paper (reading_of text.now (length buffer.old)) }
     ensures buffer_after { buffer.new ≡ buffer_of text.now buffer.old }
 {
-    out::reading(route::read(text, buffer))
+    route::read(text, buffer).into()
 }
 
 // targeted: 0 without a target, any other number with it.
-fn target(targeted: u32, millimetres: u64) -> Target
+fn target(targeted: u32, millimetres: u64) -> Option<u64>
     ensures { result ≡ target_of targeted millimetres }
 {
     if targeted == 0 {
-        return Target::None;
+        return None;
     }
-    Target::Millimetres(millimetres)
+    Some(millimetres)
 }
 
 // comma: 0 the point, any other number the comma.
@@ -158,7 +167,7 @@ pub extern "C" fn senruhobi_route_size(
 ) -> WritingOut
     ensures { result ≡ sized (mark_of comma) (target_of targeted millimetres) points.now }
 {
-    out::writing(writer::size(points, target(targeted, millimetres), mark(comma)))
+    writer::size(points, target(targeted, millimetres), mark(comma)).into()
 }
 
 #[unsafe(no_mangle)]
@@ -173,13 +182,14 @@ pub extern "C" fn senruhobi_write_route(
     ensures value { result ≡ answer (mark_of comma) (target_of targeted millimetres) points.now place out.old }
     ensures out_after { out.new ≡ left (mark_of comma) (target_of targeted millimetres) points.now place out.old }
 {
-    out::writing(writer::write(
+    writer::write(
         points,
         target(targeted, millimetres),
         mark(comma),
         out,
         place,
-    ))
+    )
+    .into()
 }
 
 // pen: 0 up, any other number down.

@@ -2,7 +2,7 @@
 #![tactic(auto)]
 
 ghost use Rattle.std.specs.Prelude.{◌≡◌};
-ghost use Rattle.sines.specs.Table.{sines};
+ghost use Rattle.sines.specs.Table.{sines, entry};
 
 mod table;
 
@@ -10,9 +10,23 @@ use table::SINES;
 
 pub type Entries = [u64; 4501];
 
-// The whole table. The language has no statics, so each call builds its 36,008 bytes: make it once and lend it.
+fn the_table() -> &'static Entries
+    ensures { result.now ≡ sines }
+{
+    &SINES
+}
+
+// A copy of the whole table.
 pub fn table_of_sines() -> Entries
     ensures { result ≡ sines }
 {
-    SINES
+    *the_table()
+}
+
+// Entry `k`, and 0 past the last one.
+#[tactic(auto, unfolding(crate::specs::Table::entry))]
+pub fn entry(k: usize) -> u64
+    ensures { result ≡ entry k }
+{
+    the_table().get(k).copied().unwrap_or(0)
 }

@@ -1,5 +1,5 @@
 // The table of sines: entry k is 10^13 times the sine of k × 0.02 degree, to the nearest whole number.
-pub(crate) const SINES: [u64; 4501] = [
+pub(crate) static SINES: [u64; 4501] = [
     0,
     3490658433,
     6981316441,

@@ -6,17 +6,10 @@ ghost use Rattle.std.specs.Prelude.{◌≡◌, ◌+◌, ◌<◌, ◌≤◌, ◌+
 ghost use Rattle.std.specs.Io.KnownBytes.{Appends, Consumes, IsAtEnd};
 ghost use Rattle.streams.specs.Input.{Came, CameOf};
 
-use route::{MOST_BYTES, Reading};
+use route::{MOST_BYTES, Refused, Route};
 use std::fmt::InlineText;
 use std::io;
 use std::io::{Read, Write};
-
-// What became of the input: it was read, or it cannot be.
-#[derive(Clone, Copy)]
-pub enum Input {
-    Read(Reading),
-    Failed(io::Error),
-}
 
 // One read, behind the `at` bytes that have come.
 fn read_at<R: Read>(input: &mut R, bytes: &mut [u8], at: usize) -> io::Result<usize>
@@ -30,6 +23,7 @@ fn read_at<R: Read>(input: &mut R, bytes: &mut [u8], at: usize) -> io::Result<us
 }
 
 // Reads until the input ends or `bytes` is full, and answers how many bytes came.
+// Kept: each step goes on by what was read, which no `for` does, and the library's `read_to_end` needs a heap.
 fn read_all<R: Read>(input: &mut R, bytes: &mut [u8]) -> io::Result<usize>
     ensures bound { IfOk result (λ n. n ≤ length bytes.new) }
     ensures came { IfOk result (λ n. Consumes (R.remaining input.old) (R.remaining input.new) (take n bytes.new)) }
@@ -46,18 +40,15 @@ fn read_all<R: Read>(input: &mut R, bytes: &mut [u8]) -> io::Result<usize>
     Ok(done)
 }
 
-// Reads a route; its points go into the buffer.
-pub fn read_route<R: Read>(input: &mut R, buffer: &mut [i32]) -> Input
+// Reads a route; its points go into the buffer. What is refused of the text stands within, beside an input that cannot be read.
+pub fn read_route<R: Read>(input: &mut R, buffer: &mut [i32]) -> io::Result<Result<Route, Refused>>
     ensures came { Came result buffer.old buffer.new }
     ensures known { IfSome (R.remaining input.old) (λ text. CameOf text result buffer.old buffer.new) }
 {
     // one byte more than a route may have, so that a longer one is refused
     let mut bytes = [0u8; MOST_BYTES + 1];
-    let n = match read_all(input, &mut bytes) {
-        Ok(n) => n,
-        Err(error) => return Input::Failed(error),
-    };
-    Input::Read(route::read(&bytes[..n], buffer))
+    let n = read_all(input, &mut bytes)?;
+    Ok(route::read(&bytes[..n], buffer))
 }
 
 // Each answers whether it could be printed; after an error some of it may have been.
@@ -80,6 +71,7 @@ pub fn field<W: Write>(out: &mut W, n: u64) -> io::Result<()>
 }
 
 // The line of a refusal: its number and its line.
+// Kept: it takes numbers and no `Refused`, since a caller may print any two.
 pub fn refused<W: Write>(out: &mut W, refusal: u32, line: u32) -> io::Result<()>
     ensures { OnOk result (Appends (W.contents out.old) (W.contents out.new)
         (codes "refused\t" ++ (decimal refusal ++ (codes "\t" ++ (decimal line ++ codes "\n"))))) }

@@ -5,7 +5,8 @@ use Rattle.std.proofs.Common.{sym, ◌∙◌, inl, inr, mul-le-mul, arith, SFits
 use Rattle.std.proofs.Math.IntN.{neg_ℤ}
 use Rattle.std.specs.Int.Signed.{lt_z, le_z}
 use Rattle.std.specs.Int.{w32, w64}
-use Rattle.refusals.specs.Refusal.{LATITUDE, LONGITUDE, MERIDIAN}
+use Rattle.refusals.specs.declared.Refusal.TheVariants as R
+use Rattle.refusals.specs.Choice.{fine}
 use Rattle.refusals.specs.Tests.{and_true, true_and, unless_none}
 use Rattle.sines.specs.Sine.{quarter, short_unit}
 use Rattle.signed.specs.Sides.{above, below, one_side, same, add_sides, sub_sides, neg_above, neg_below, mul_above, mul_below, size_sides}
@@ -247,17 +248,17 @@ folded_mirror a h =
 
 -- ---- what nothing refuses
 
-pub point_accepted : (lat lon : ℤ) → point_refusal lat lon ≡ 0 → (is_latitude lat ≡ true) × (is_longitude lon ≡ true)
+pub point_accepted : (lat lon : ℤ) → point_refusal lat lon ≡ fine → (is_latitude lat ≡ true) × (is_longitude lon ≡ true)
 unfolding point_refusal
 point_accepted lat lon e =
-    let y = unless_none (is_latitude lat) LATITUDE _ (omega arith) e in
-    let x = unless_none (is_longitude lon) LONGITUDE 0 (omega arith) y.1 in
+    let y = unless_none (is_latitude lat) R.Latitude _ e in
+    let x = unless_none (is_longitude lon) R.Longitude fine y.1 in
     (y.0, x.0)
 
-pub sheet_accepted : (lat lon meridian : ℤ) → sheet_refusal lat lon meridian ≡ 0
+pub sheet_accepted : (lat lon meridian : ℤ) → sheet_refusal lat lon meridian ≡ fine
     → (is_longitude meridian ≡ true) × (is_latitude lat ≡ true) × (is_longitude lon ≡ true)
 unfolding sheet_refusal
 sheet_accepted lat lon meridian e =
-    let m = unless_none (is_longitude meridian) MERIDIAN _ (omega arith) e in
+    let m = unless_none (is_longitude meridian) R.Meridian _ e in
     let p = point_accepted lat lon m.1 in
     (m.0, p.0, p.1)

@@ -23,8 +23,8 @@ offset = answers (λ κs a v w. refl)
 pub fold : One contracts.fold.ended ticks.fold.Reads.Asked ticks.fold.Reads.Learnt
 fold = answers (λ κs a v w. refl)
 
-pub point_refusal : One contracts.point_refusal.ended ticks.point_refusal.Reads.Asked ticks.point_refusal.Reads.Learnt
-point_refusal = answers (λ κs a v w. refl)
+pub check_point : One contracts.check_point.ended ticks.check_point.Reads.Asked ticks.check_point.Reads.Learnt
+check_point = answers (λ κs a v w. refl)
 
-pub sheet_refusal : One contracts.sheet_refusal.ended ticks.sheet_refusal.Reads.Asked ticks.sheet_refusal.Reads.Learnt
-sheet_refusal = answers (λ κs a v w. refl)
+pub check_sheet : One contracts.check_sheet.ended ticks.check_sheet.Reads.Asked ticks.check_sheet.Reads.Learnt
+check_sheet = answers (λ κs a v w. refl)

@@ -1,11 +1,11 @@
 -- "An angle is a whole number of ticks; a tick is one ten-millionth of a degree." Ranges, the offset, the angle that has another's sine, and what
 -- refuses a point.
 -- Assumes nothing.
-use Rattle.std.specs.Prelude.{ℕ, Bool, ◌&&◌, ℤ, pos, neg_ℤ, ◌+ℤ◌, ◌-ℤ◌, if◌then◌else◌}
+use Rattle.std.specs.Prelude.{ℕ, Bool, ◌&&◌, ℤ, pos, neg_ℤ, ◌+ℤ◌, ◌-ℤ◌, if◌then◌else◌, Err}
 use Rattle.std.specs.Int.Signed.{lt_z, le_z}
 use Rattle.sines.specs.Sine.{quarter}
-use Rattle.refusals.specs.Refusal.{LATITUDE, LONGITUDE, MERIDIAN}
-use Rattle.refusals.specs.Choice.{unless}
+use Rattle.refusals.specs.declared.Refusal.TheVariants as R
+use Rattle.refusals.specs.Choice.{unless, Check, fine}
 
 -- half a turn, and a full one
 abbrev pub half : ℕ
@@ -43,9 +43,9 @@ unfoldable pub folded : ℤ → ℤ
 folded a = if lt_z (pos quarter) a then pos half -ℤ a else (if lt_z a (neg_ℤ (pos quarter)) then neg_ℤ (pos half) -ℤ a else a)
 
 -- a point's refusal: 6, then 7
-unfoldable pub point_refusal : ℤ → ℤ → ℕ
-point_refusal lat lon = unless (is_latitude lat) LATITUDE (unless (is_longitude lon) LONGITUDE 0)
+unfoldable pub point_refusal : ℤ → ℤ → Check
+point_refusal lat lon = unless (is_latitude lat) (Err R.Latitude) (unless (is_longitude lon) (Err R.Longitude) fine)
 
 -- "Sheets: 14, 6, 7."
-unfoldable pub sheet_refusal : ℤ → ℤ → ℤ → ℕ
-sheet_refusal lat lon meridian = unless (is_longitude meridian) MERIDIAN (point_refusal lat lon)
+unfoldable pub sheet_refusal : ℤ → ℤ → ℤ → Check
+sheet_refusal lat lon meridian = unless (is_longitude meridian) (Err R.Meridian) (point_refusal lat lon)

@@ -4,7 +4,7 @@
 ghost use Rattle.std.specs.Prelude.{◌≡◌};
 ghost use Rattle.ticks.specs.Ticks.{is_latitude, is_longitude, is_angle, turned, offset_of, folded, point_refusal, sheet_refusal};
 
-use refusals::{LATITUDE, LONGITUDE, MERIDIAN};
+use refusals::Refusal;
 
 pub const NORTH: i64 = 900_000_000;
 
@@ -17,23 +17,24 @@ const WEST: i64 = -EAST;
 // A full turn.
 pub const TURN: i64 = 3_600_000_000;
 
+// Kept: three ranges of one line each, since one function over both ends would have each caller say them.
 pub fn is_latitude(z: i64) -> bool
     ensures { result ≡ is_latitude z }
 {
-    (SOUTH <= z) & (z <= NORTH)
+    (SOUTH..=NORTH).contains(&z)
 }
 
 pub fn is_longitude(z: i64) -> bool
     ensures { result ≡ is_longitude z }
 {
-    (WEST <= z) & (z < EAST)
+    (WEST..EAST).contains(&z)
 }
 
 // Whether an angle has a sine.
 pub fn is_angle(z: i64) -> bool
     ensures { result ≡ is_angle z }
 {
-    (WEST <= z) & (z <= EAST)
+    (WEST..=EAST).contains(&z)
 }
 
 pub fn into_turn(d: i64) -> i64
@@ -70,27 +71,27 @@ pub fn fold(angle: i64) -> i64
     }
 }
 
-// 0 where the point is accepted.
+// Whether a point is accepted.
 #[tactic(auto, unfolding(crate::specs::Ticks::point_refusal))]
-pub fn point_refusal(latitude: i32, longitude: i32) -> u32
+pub fn check_point(latitude: i32, longitude: i32) -> Result<(), Refusal>
     ensures { result ≡ point_refusal latitude longitude }
 {
     if !is_latitude(latitude as i64) {
-        return LATITUDE;
+        return Err(Refusal::Latitude);
     }
     if !is_longitude(longitude as i64) {
-        return LONGITUDE;
+        return Err(Refusal::Longitude);
     }
-    0
+    Ok(())
 }
 
-// 0 where the point has a place on a sheet with this central meridian.
+// Whether a point has a place on a sheet with this central meridian.
 #[tactic(auto, unfolding(crate::specs::Ticks::sheet_refusal))]
-pub fn sheet_refusal(latitude: i32, longitude: i32, meridian: i32) -> u32
+pub fn check_sheet(latitude: i32, longitude: i32, meridian: i32) -> Result<(), Refusal>
     ensures { result ≡ sheet_refusal latitude longitude meridian }
 {
     if !is_longitude(meridian as i64) {
-        return MERIDIAN;
+        return Err(Refusal::Meridian);
     }
-    point_refusal(latitude, longitude)
+    check_point(latitude, longitude)
 }

@@ -1,7 +1,9 @@
--- The document's rules of a written route as figures: short buffers and their texts, refusals and outputs. The numbers are the document's own, without names.
+-- The document's rules of a written route as figures: short buffers and their texts, refusals and outputs. The numbers are the document's own.
 -- Assumes nothing.
-use Rattle.std.specs.Prelude.{◌≡◌, refl, List, [], ◌∷◌, ℕ, ℤ, pos, neg_ℤ}
+use Rattle.std.specs.Prelude.{◌≡◌, refl, List, [], ◌∷◌, ℕ, ℤ, pos, neg_ℤ, Option, Some, None, Err}
 use Prim.Native.String.{String}
+use Rattle.refusals.specs.declared.Refusal.TheVariants as R
+use Rattle.refusals.specs.Choice.{fine}
 use Rattle.ticks.specs.Ticks.{point_refusal}
 use Rattle.points.specs.Points.{thirds_fit, points_refusal, buffer_refusal}
 use Rattle.numbers.specs.declared.Mark.{Mark}
@@ -9,21 +11,19 @@ use Rattle.numbers.specs.declared.Mark.TheVariants as M
 use Rattle.numerals.specs.Numeral.{numeral_of}
 use Rattle.numerals.specs.Output.{writing_of, output_of}
 use Rattle.numbers.specs.Text.{bytes}
-use Rattle.route.specs.declared.Target.{Target}
-use Rattle.route.specs.declared.Target.TheVariants as T
 use Rattle.writer.specs.RouteText.{route_text, target_refusal, text_refusal}
 use Rattle.writer.specs.Paper.{answer, left}
 
-abbrev pub Writes : Mark → Target → List ℤ → String → Type 0
+abbrev pub Writes : Mark → Option ℕ → List ℤ → String → Type 0
 Writes mark target points text = route_text mark target points ≡ bytes text
 
 -- "Each number is written one way: no leading zeros but a lone 0, no decimals that end in zero, no bare mark, no minus on zero."
 pub record Texts : Type 0 where
-  pub no_points : Writes M.Point (T.Millimetres 0) [] "route\tpoint\nt\t0\n"
+  pub no_points : Writes M.Point (Some 0) [] "route\tpoint\nt\t0\n"
   -- "A `g` line precedes every point after the first whose third number is 1."
-  pub gap : Writes M.Comma (T.Millimetres 2_500_000) (pos 105_000_000 ∷ neg_ℤ (pos 1) ∷ pos 1 ∷ neg_ℤ (pos 900_000_000) ∷ neg_ℤ (pos 1_800_000_000) ∷ pos 1 ∷ [])
+  pub gap : Writes M.Comma (Some 2_500_000) (pos 105_000_000 ∷ neg_ℤ (pos 1) ∷ pos 1 ∷ neg_ℤ (pos 900_000_000) ∷ neg_ℤ (pos 1_800_000_000) ∷ pos 1 ∷ [])
       "route\tcomma\nt\t2,5\np\t10,5\t-0,0000001\ng\np\t-90\t-180\n"
-  pub leg : Writes M.Point T.None (neg_ℤ (pos 1) ∷ pos 0 ∷ pos 1 ∷ pos 1_000_000 ∷ pos 1_799_999_999 ∷ pos 0 ∷ []) "route\tpoint\np\t-0.0000001\t0\np\t0.1\t179.9999999\n"
+  pub leg : Writes M.Point None (neg_ℤ (pos 1) ∷ pos 0 ∷ pos 1 ∷ pos 1_000_000 ∷ pos 1_799_999_999 ∷ pos 0 ∷ []) "route\tpoint\np\t-0.0000001\t0\np\t0.1\t179.9999999\n"
 
 pub texts : Texts
 unfolding route_text numeral_of
@@ -31,11 +31,11 @@ texts = record { no_points = refl; gap = refl; leg = refl }
 
 -- "order 17, 9, 6 and 7 by point, 16, 15"
 pub record Refusals : Type 0 where
-  pub part_metre : text_refusal (T.Millimetres 2_500_001) [] ≡ 16
-  pub greatest : text_refusal (T.Millimetres 999_999_000) [] ≡ 0
-  pub above : text_refusal (T.Millimetres 1_000_000_000) [] ≡ 16
-  pub buffer_first : text_refusal (T.Millimetres 1) (pos 0 ∷ pos 0 ∷ []) ≡ 17
-  pub point_first : text_refusal (T.Millimetres 1) (pos 900_000_001 ∷ pos 0 ∷ pos 1 ∷ []) ≡ 6
+  pub part_metre : text_refusal (Some 2_500_001) [] ≡ Err R.Target
+  pub greatest : text_refusal (Some 999_999_000) [] ≡ fine
+  pub above : text_refusal (Some 1_000_000_000) [] ≡ Err R.Target
+  pub buffer_first : text_refusal (Some 1) (pos 0 ∷ pos 0 ∷ []) ≡ Err R.Buffer
+  pub point_first : text_refusal (Some 1) (pos 900_000_001 ∷ pos 0 ∷ pos 1 ∷ []) ≡ Err R.Latitude
 
 pub refusals : Refusals
 unfolding text_refusal target_refusal buffer_refusal thirds_fit points_refusal point_refusal
@@ -43,10 +43,10 @@ refusals = record { part_metre = refl; greatest = refl; above = refl; buffer_fir
 
 -- a route of no points, which takes 12 bytes, into an output of 16 from a place onward
 abbrev pub Answers : ℕ → ℕ → ℕ → Type 0
-Answers place n bytes-written = answer M.Point T.None [] place (bytes "abcdefghijklmnop") ≡ record { refusal = n; bytes = bytes-written }
+Answers place n bytes-written = answer M.Point None [] place (bytes "abcdefghijklmnop") ≡ record { refusal = n; bytes = bytes-written }
 
 abbrev pub Leaves : ℕ → String → Type 0
-Leaves place text = left M.Point T.None [] place (bytes "abcdefghijklmnop") ≡ bytes text
+Leaves place text = left M.Point None [] place (bytes "abcdefghijklmnop") ≡ bytes text
 
 -- "nothing before or after them changing"; "a place past its end leaves none"
 pub record Outputs : Type 0 where

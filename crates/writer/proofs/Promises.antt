@@ -1,9 +1,11 @@
 -- What the writer promises of every point buffer, target, mark and output, in the paper's numbers; docs/PROMISES.md names these theorems.
 -- Assumes nothing.
-use Rattle.std.specs.Prelude.{◌≡◌, refl, true, ◌&&◌, List, ◌++◌, ℕ, zero, suc, ◌%◌, ◌≤◌, ◌<◌, leb, eqb, ℤ, length, take, drop}
+use Rattle.std.specs.Prelude.{◌≡◌, refl, true, ◌&&◌, List, ◌++◌, ℕ, zero, suc, ◌%◌, ◌≤◌, ◌<◌, leb, eqb, ℤ, length, take, drop, Option, Some, None, Ok, Err}
 use Rattle.std.proofs.Math.Path.{ap}
 use Rattle.std.proofs.Common.{arith, eq-eqb, eqb-true, le-leb, leb-true}
-use Rattle.refusals.specs.Choice.{first_of}
+use Rattle.refusals.specs.declared.Refusal.{Refusal}
+use Rattle.refusals.specs.declared.Refusal.TheVariants as R
+use Rattle.refusals.specs.Choice.{Check, fine, first_of}
 use Rattle.refusals.specs.Tests.{by_test, clash, and_true, true_and}
 use Rattle.points.specs.Points.{count, buffer_refusal}
 use Rattle.points.proofs.Promises.{Judged, buffer_judged}
@@ -14,9 +16,6 @@ use Rattle.globe.specs.Paper.{length_paper}
 use Rattle.numbers.specs.declared.Mark.{Mark}
 use Rattle.numbers.specs.declared.Mark.TheVariants as M
 use Rattle.numerals.proofs.OutputLaws.{Outcome, outcome, not_refused}
-use Rattle.route.specs.declared.Target.{Target}
-use Rattle.route.specs.declared.Target.TheVariants as T
-use Rattle.route.specs.declared.Reading.TheVariants as R
 use Rattle.route.specs.Line.{metre}
 use Rattle.route.specs.Route.{reading_of, buffer_of}
 use Rattle.route.specs.Paper.{reading_paper}
@@ -29,8 +28,8 @@ use Rattle.writer.proofs.RouteTextLaws.{text_accepted, text_length, walk_back}
 
 -- n says whether there is a target, and what stands beside it is not looked at where there is none; n names the mark
 pub record Given (n mm : ℕ) : Type 0 where
-  pub no_target : n ≡ 0 → target_of n mm ≡ T.None
-  pub a_target : 0 < n → target_of n mm ≡ T.Millimetres mm
+  pub no_target : n ≡ 0 → target_of n mm ≡ None
+  pub a_target : 0 < n → target_of n mm ≡ Some mm
   pub the_point : n ≡ 0 → mark_of n ≡ M.Point
   pub the_comma : 0 < n → mark_of n ≡ M.Comma
 
@@ -41,44 +40,44 @@ given (suc n) mm = record { no_target = λ h. absurd (omega arith); a_target = �
 -- ---- which refusal
 
 -- none of "target not a whole number of metres or above 999,999,000 mm"
-pub data Allowed : Target → Type 0 where
-  none : Allowed T.None
-  some : {mm : ℕ} → mm % 1_000 ≡ 0 → mm ≤ 999_999_000 → Allowed (T.Millimetres mm)
+pub data Allowed : Option ℕ → Type 0 where
+  none : Allowed None
+  some : {mm : ℕ} → mm % 1_000 ≡ 0 → mm ≤ 999_999_000 → Allowed (Some mm)
 
 -- 17, 9, 6 and 7 by point, then 16; no case is another
-pub data TextJudged (target : Target) (points : List ℤ) (n : ℕ) : Type 0 where
-  bad_points : Judged points n → 0 < n → TextJudged target points n
-  bad_target : Judged points 0 → (Allowed target → ⊥) → n ≡ 16 → TextJudged target points n
-  accepted : Judged points 0 → Allowed target → n ≡ 0 → TextJudged target points n
+pub data TextJudged (target : Option ℕ) (points : List ℤ) : Check → Type 0 where
+  bad_points : {r : Refusal} → Judged points (Err r) → TextJudged target points (Err r)
+  bad_target : Judged points fine → (Allowed target → ⊥) → TextJudged target points (Err R.Target)
+  accepted : Judged points fine → Allowed target → TextJudged target points fine
 
-target_judged : (target : Target) (points : List ℤ) → Judged points 0 → TextJudged target points (target_refusal target)
+target_judged : (target : Option ℕ) (points : List ℤ) → Judged points fine → TextJudged target points (target_refusal target)
 unfolding target_refusal
-target_judged T.None points j = accepted j none refl
-target_judged (T.Millimetres mm) points j =
+target_judged None points j = accepted j none
+target_judged (Some mm) points j =
     by_test (eqb (mm % metre) 0 && leb mm most_target)
-    (λ t. let p = and_true (eqb (mm % metre) 0) (leb mm most_target) t in rw t (accepted j (some (eqb-true (mm % metre) 0 p.0) (leb-true mm most_target p.1)) refl))
-    (λ t. rw t (bad_target j (λ h. clash (test h) t) refl))
+    (λ t. let p = and_true (eqb (mm % metre) 0) (leb mm most_target) t in rw t (accepted j (some (eqb-true (mm % metre) 0 p.0) (leb-true mm most_target p.1))))
+    (λ t. rw t (bad_target j (λ h. clash (test h) t)))
   where
-    test : Allowed (T.Millimetres mm) → eqb (mm % metre) 0 && leb mm most_target ≡ true
+    test : Allowed (Some mm) → eqb (mm % metre) 0 && leb mm most_target ≡ true
     test (some w l) = true_and (eq-eqb (mm % metre) 0 w) (le-leb mm most_target l)
 
-pub text_judged : (target : Target) (points : List ℤ) → TextJudged target points (text_refusal target points)
+pub text_judged : (target : Option ℕ) (points : List ℤ) → TextJudged target points (text_refusal target points)
 unfolding text_refusal
 text_judged target points = go (buffer_refusal points) (buffer_judged points)
   where
-    go : (n : ℕ) → Judged points n → TextJudged target points (first_of n (target_refusal target))
-    go zero j = target_judged target points j
-    go (suc n) j = bad_points j (omega arith)
+    go : (c : Check) → Judged points c → TextJudged target points (first_of c (target_refusal target))
+    go (Ok tt) j = target_judged target points j
+    go (Err r) j = bad_points j
 
 -- ---- what is written where
 
--- "order 17, 9, 6 and 7 by point, 16, 15": n refuses the text itself, 0 being none, and is answered first
-pub record WriteJudged (mark : Mark) (target : Target) (points : List ℤ) (place : ℕ) (out : List ℕ) : Type 0 where
-  pub n : ℕ
+-- "order 17, 9, 6 and 7 by point, 16, 15": what refuses the text itself, n, is answered first
+pub record WriteJudged (mark : Mark) (target : Option ℕ) (points : List ℤ) (place : ℕ) (out : List ℕ) : Type 0 where
+  pub n : Check
   pub text : TextJudged target points n
   pub room : Outcome n (route_text mark target points) place out (answer mark target points place out) (left mark target points place out)
 
-pub write_judged : (mark : Mark) (target : Target) (points : List ℤ) (place : ℕ) (out : List ℕ) → WriteJudged mark target points place out
+pub write_judged : (mark : Mark) (target : Option ℕ) (points : List ℤ) (place : ℕ) (out : List ℕ) → WriteJudged mark target points place out
 write_judged mark target points place out =
     record {
       n = text_refusal target points;
@@ -89,20 +88,21 @@ write_judged mark target points place out =
 -- ---- what is read back
 
 -- "Reading what was written gives back points, target and length."
-pub record ReadBack (target : Target) (points : List ℤ) (text : List ℕ) (buffer : List ℤ) : Type 0 where
+pub record ReadBack (target : Option ℕ) (points : List ℤ) (text : List ℕ) (buffer : List ℤ) : Type 0 where
   -- no refusal, so many points, their length as it is measured, and the target
-  pub reading : paper text buffer ≡ reading_paper (R.Route (count points) (length_paper (measure_of points)).millimetres target)
+  pub reading : paper text buffer ≡ reading_paper (Ok (record { points = count points; length = (length_paper (measure_of points)).millimetres; target = target }))
   pub measured : (length_paper (measure_of points)).refusal ≡ 0
   -- each number of each point; "The rest of the buffer is unchanged."
   pub points_read : buffer_of text buffer ≡ points ++ drop (length points) buffer
 
-module _ (mark : Mark) (target : Target) (points : List ℤ) where
-  text_back : text_refusal target points ≡ 0 → (buffer : List ℤ) → length points ≤ length buffer → ReadBack target points (route_text mark target points) buffer
+module _ (mark : Mark) (target : Option ℕ) (points : List ℤ) where
+  text_back : text_refusal target points ≡ fine → (buffer : List ℤ) → length points ≤ length buffer → ReadBack target points (route_text mark target points) buffer
   unfolding reading_of buffer_of
   text_back e buffer h =
       let walk = walk_back mark target points e (length buffer) h in
       let measured = accepted_measured points (text_accepted target points e).0 in
-      let told : reading_of (route_text mark target points) (length buffer) ≡ R.Route (count points) (length_paper (measure_of points)).millimetres target = rw (walk, measured) in
+      let told : reading_of (route_text mark target points) (length buffer)
+      ≡ Ok (record { points = count points; length = (length_paper (measure_of points)).millimetres; target = target }) = rw (walk, measured) in
       record { reading = ap reading_paper told; measured = rw measured; points_read = rw walk }
 
   -- the bytes that stand in the output, as many as were answered

@@ -1,10 +1,12 @@
 -- What is promised of the room that a route's text needs, in the paper's own numbers: its length as the writing has it, the most that so many points need, and points that need as much.
 -- Assumes nothing.
-use Rattle.std.specs.Prelude.{◌≡◌, refl, true, List, [], ◌++◌, ℕ, zero, suc, ◌+◌, ◌-◌, ◌*◌, ◌≤◌, ◌<◌, leb, ℤ, pos, neg_ℤ}
+use Rattle.std.specs.Prelude.{◌≡◌, refl, true, List, [], ◌++◌, ℕ, zero, suc, ◌+◌, ◌-◌, ◌*◌, ◌≤◌, ◌<◌, leb, ℤ, pos, neg_ℤ, Option, Some, Ok, Err}
 use Rattle.std.proofs.Common.{sym, ap, arith, le-leb, leb-true, leb-false}
 use Rattle.std.proofs.Math.ListN.{length}
-use Rattle.refusals.specs.Choice.{answered}
-use Rattle.refusals.specs.Tests.{by_test, true_and}
+use Rattle.refusals.specs.declared.Refusal.{Refusal}
+use Rattle.refusals.specs.Refusal.{number}
+use Rattle.refusals.specs.Choice.{Check, fine, sent, answered}
+use Rattle.refusals.specs.Tests.{by_test, true_and, some_number}
 use Rattle.ticks.specs.Ticks.{is_latitude, is_longitude, point_refusal}
 use Rattle.points.specs.Points.{point_numbers, latitude_at, longitude_at, third_at, count}
 use Rattle.points.proofs.PointLaws.{accepted, Points, none, next, behind, points_accepted}
@@ -13,13 +15,10 @@ use Rattle.numbers.specs.declared.Mark.{Mark}
 use Rattle.numbers.specs.declared.Mark.TheVariants as M
 use Rattle.numbers.specs.declared.Kind.TheVariants as K
 use Rattle.numerals.specs.Numeral.{numeral_of}
-use Rattle.numerals.specs.declared.Writing.TheVariants as W
 use Rattle.numerals.specs.declared.WritingOut.{WritingOut}
 use Rattle.numerals.specs.Output.{writing_of}
 use Rattle.numerals.proofs.OutputLaws.{text_refused, room_refused, text_written}
 use Rattle.numerals.specs.Paper.{writing_paper}
-use Rattle.route.specs.declared.Target.{Target}
-use Rattle.route.specs.declared.Target.TheVariants as T
 use Rattle.writer.specs.RouteText.{point_lines, ended, route_text, target_refusal, text_refusal}
 use Rattle.writer.proofs.RouteTextLaws.{target_length, text_length, text_most, text_accepted}
 use Rattle.writer.specs.TextSteps.{has_gap, point_text}
@@ -32,14 +31,14 @@ use Rattle.writer.proofs.Promises as P
 
 -- ---- the length without writing
 
-module _ (mark : Mark) (target : Target) (points : List ℤ) where
-  -- n is what refuses the text itself, 0 being none: "with R-1's refusals but 15"
+module _ (mark : Mark) (target : Option ℕ) (points : List ℤ) where
+  -- n is what refuses the text itself: "with R-1's refusals but 15"
   pub record SizeJudged : Type 0 where
-    pub n : ℕ
+    pub n : Check
     pub text : TextJudged target points n
     -- "A refusal gives zero in every value beside its number"
-    pub refused : 0 < n → sized mark target points ≡ record { refusal = n; bytes = 0 }
-    pub told : n ≡ 0 → sized mark target points ≡ record { refusal = 0; bytes = length (route_text mark target points) }
+    pub refused : {r : Refusal} → n ≡ Err r → sized mark target points ≡ record { refusal = number r; bytes = 0 }
+    pub told : n ≡ fine → sized mark target points ≡ record { refusal = 0; bytes = length (route_text mark target points) }
 
   pub size_judged : SizeJudged
   size_judged = record {
@@ -51,20 +50,19 @@ module _ (mark : Mark) (target : Target) (points : List ℤ) where
 
 -- ---- "Given none of these, 15 comes exactly when the output from the place on is shorter."
 
-point_most : (lat lon : ℤ) → point_refusal lat lon ≤ 7
+point_most : (lat lon : ℤ) → sent (point_refusal lat lon) ≤ 7
 unfolding point_refusal
 point_most lat lon =
     by_test (is_latitude lat)
     (λ t. by_test (is_longitude lon) (λ u. rw (t, u) (omega arith)) (λ u. rw (t, u) (omega arith)))
     (λ t. rw t (omega arith))
 
-not_15 : (target : Target) (points : List ℤ) {n : ℕ} → TextJudged target points n → n ≡ 15 → ⊥
-not_15 target points (P.bad_points (Q.unformed f h) some) e = omega arith
-not_15 target points (P.bad_points (Q.many f m h) some) e = omega arith
-not_15 target points (P.bad_points (Q.refused f m r h) some) e = omega (arith, r.here, point_most (latitude_at points r.i) (longitude_at points r.i))
-not_15 target points (P.bad_points (Q.none f m u h) some) e = omega arith
-not_15 target points (P.bad_target j a h) e = omega arith
-not_15 target points (P.accepted j a h) e = omega arith
+not_15 : (target : Option ℕ) (points : List ℤ) {n : Check} → TextJudged target points n → sent n ≡ 15 → ⊥
+not_15 target points (P.bad_points (Q.unformed f)) e = omega arith
+not_15 target points (P.bad_points (Q.many f m)) e = omega arith
+not_15 target points (P.bad_points (Q.refused f m r)) e = omega (arith, rw r.here at (point_most (latitude_at points r.i) (longitude_at points r.i)))
+not_15 target points (P.bad_target j a) e = omega arith
+not_15 target points (P.accepted j a) e = omega arith
 
 -- of a size, and of what is answered where there is so much room
 pub record Lent (room : ℕ) (size answer : WritingOut) : Type 0 where
@@ -77,19 +75,19 @@ module _ (text : List ℕ) (place : ℕ) (out : List ℕ) where
   abbrev room : ℕ
   room = length out - place
 
-  lent_by : (n : ℕ) → (n ≡ 15 → ⊥) → Lent room (writing_paper (answered n W.Refused (W.Bytes (length text)))) (writing_paper (writing_of n text place out))
-  lent_by zero h =
+  lent_by : (n : Check) → (sent n ≡ 15 → ⊥) → Lent room (writing_paper (answered n (length text))) (writing_paper (writing_of n text place out))
+  lent_by (Ok tt) h =
       by_test (leb (length text) room)
       (λ t.
       let l = leb-true (length text) room t in
-      rw (text_written 0 text place out refl l) (record { only = λ e. absurd (omega arith); whenever = λ z s. absurd (omega (arith, l)); otherwise = λ e. refl }))
+      rw (text_written fine text place out refl l) (record { only = λ e. absurd (omega arith); whenever = λ z s. absurd (omega (arith, l)); otherwise = λ e. refl }))
       (λ t.
       let l = leb-false (length text) room t in
-      rw (room_refused 0 text place out refl l) (record { only = λ e. (refl, l); whenever = λ z s. refl; otherwise = λ e. absurd (e refl) }))
-  lent_by (suc n) h =
-      rw (text_refused (suc n) text place out (omega arith)) (record { only = λ e. absurd (h e); whenever = λ z s. absurd (omega arith); otherwise = λ e. refl })
+      rw (room_refused fine text place out refl l) (record { only = λ e. (refl, l); whenever = λ z s. refl; otherwise = λ e. absurd (e refl) }))
+  lent_by (Err r) h =
+      rw (text_refused r text place out) (record { only = λ e. absurd (h e); whenever = λ z s. absurd (omega (arith, some_number r)); otherwise = λ e. refl })
 
-pub lent : (mark : Mark) (target : Target) (points : List ℤ) (place : ℕ) (out : List ℕ)
+pub lent : (mark : Mark) (target : Option ℕ) (points : List ℤ) (place : ℕ) (out : List ℕ)
     → Lent (length out - place) (sized mark target points) (answer mark target points place out)
 unfolding size_of
 lent mark target points place out = lent_by (route_text mark target points) place out (text_refusal target points) (not_15 target points (text_judged target points))
@@ -104,7 +102,7 @@ pub record MostIs : Type 0 where
 pub most_is : MostIs
 most_is = record { none = refl; some = λ n h. omega arith; thousand = refl }
 
-module _ (mark : Mark) (target : Target) (points : List ℤ) where
+module _ (mark : Mark) (target : Option ℕ) (points : List ℤ) where
   pub record NeverMore : Type 0 where
     -- "n points need at most 22 + 29n bytes"
     pub figure : (sized mark target points).bytes ≤ 22 + 29 * count points
@@ -114,14 +112,14 @@ module _ (mark : Mark) (target : Target) (points : List ℤ) where
   pub never_more : NeverMore
   never_more = go (text_refusal target points) refl
     where
-      go : (n : ℕ) → text_refusal target points ≡ n → NeverMore
-      go zero z =
+      go : (n : Check) → text_refusal target points ≡ n → NeverMore
+      go (Ok tt) z =
           let most = text_most mark target points z in
           let e = size_told mark target points z in
           let few = (accepted points (text_accepted target points z).0).few in
           record { figure = rw e (omega (arith, most)); by_points = rw e most; by_all = rw e (omega (arith, most, few)) }
-      go (suc n) z =
-          let e = size_refused mark target points (omega (arith, z)) in
+      go (Err r) z =
+          let e = size_refused mark target points z in
           record { figure = rw e (omega arith); by_points = rw e (omega arith); by_all = rw e (omega arith) }
 
   -- with so much room from the place on 15 never comes
@@ -204,7 +202,7 @@ module _ (mark : Mark) (n : ℕ) where
       omega (arith, rw e at (points_size mark (longest n) i), longest_lines i (omega arith), longest_point i h)
 
   pub record Needs : Type 0 where
-    pub target : Target
+    pub target : Option ℕ
     pub points : List ℤ
     pub many : count points ≡ n
     pub size : sized mark target points ≡ record { refusal = 0; bytes = most_text n }
@@ -213,15 +211,15 @@ module _ (mark : Mark) (n : ℕ) where
   pub as_much : n ≤ 1_000 → Needs
   unfolding text_refusal target_refusal
   as_much h =
-      let target = T.Millimetres 999_999_000 in
+      let target = Some 999_999_000 in
       let many : count (longest n) ≡ n = omega (arith, longest_length n) in
-      let z : text_refusal target (longest n) ≡ 0 = rw (points_accepted (longest_points 0 n) (omega (arith, many))) in
+      let z : text_refusal target (longest n) ≡ fine = rw (points_accepted (longest_points 0 n) (omega (arith, many))) in
       let long : length (route_text mark target (longest n)) ≡ most_text n =
       omega (arith, rw many at (text_length mark target (longest n)), target_length mark 999_999_000, (longest_numbers mark).target, longest_lines n (omega arith)) in
       record { target = target; points = longest n; many = many; size = rw (size_told mark target (longest n) z, long) }
 
 -- 22 + 29n is the best of its kind: no a + bn that is enough for all has a below 22, nor b below 29 beside 22
-pub best : (a b : ℕ) → ((mark : Mark) (target : Target) (points : List ℤ) → (sized mark target points).bytes ≤ a + b * count points) → (22 ≤ a) × (a ≡ 22 → 29 ≤ b)
+pub best : (a b : ℕ) → ((mark : Mark) (target : Option ℕ) (points : List ℤ) → (sized mark target points).bytes ≤ a + b * count points) → (22 ≤ a) × (a ≡ 22 → 29 ≤ b)
 best a b h = (omega (arith, need 0 (omega arith)), λ e. omega (arith, need 1_000 (omega arith)))
   where
     need : (n : ℕ) → n ≤ 1_000 → most_text n ≤ a + b * n

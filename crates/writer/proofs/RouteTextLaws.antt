@@ -1,10 +1,11 @@
 -- Laws of a route's text: its parts and how long they are, that no line holds an LF, and what each line is read as.
 -- Assumes nothing.
-use Rattle.std.specs.Prelude.{◌≡◌, refl, true, false, not, ◌&&◌, List, [], ◌∷◌, ◌++◌, ℕ, zero, suc, ◌+◌, ◌-◌, ◌*◌, ◌/◌, ◌%◌, ◌≤◌, ◌<◌, leb, eqb, ℤ, pos, length, take}
+use Rattle.std.specs.Prelude.{◌≡◌, refl, true, false, not, ◌&&◌, List, [], ◌∷◌, ◌++◌, ℕ, zero, suc, ◌+◌, ◌-◌, ◌*◌, ◌/◌, ◌%◌, ◌≤◌, ◌<◌, leb, eqb, ℤ, pos, length, take, Option, Some, None}
 use Rattle.std.proofs.Common.{sym, ◌∙◌, append_assoc, arith, length-append, length-take-le}
 use Prim.Native.Char.{code}
 use borrow.Author.Tests.{not-true, le-leb, leb-true, lt-ltb, eqb-true, eq-eqb}
-use Rattle.refusals.specs.Refusal.{TARGET}
+use Rattle.refusals.specs.declared.Refusal.TheVariants as R
+use Rattle.refusals.specs.Choice.{fine}
 use Rattle.refusals.specs.Tests.{by_test, clash, and_true, true_and, or_false, unless_none, first_none}
 use Rattle.signed.specs.Tests.{eq_z, eq_z_true, le_le_z}
 use Rattle.points.specs.Points.{numbers, point_numbers, latitude_at, longitude_at, third_at, count, most_points, fits_after, buffer_refusal}
@@ -21,19 +22,17 @@ use Rattle.numerals.specs.OneWay.{fits}
 use Rattle.numerals.proofs.OneWayLaws.{numeral_back, numeral_free, numeral_most}
 use Rattle.numbers.specs.Text.{bytes}
 use Rattle.globe.specs.Met.{most_target}
-use Rattle.route.specs.declared.Target.{Target}
-use Rattle.route.specs.declared.Target.TheVariants as T
-use Rattle.route.specs.Line.{metre, Seen, fresh, line_of, gap_of, target_of, point_of, third_of}
+use Rattle.route.specs.Line.{metre, same_kind, Seen, fresh, line_of, gap_of, target_of, point_of, third_of}
 use Rattle.route.specs.Route.{most_bytes, walk_of}
 use Rattle.route.specs.Route as Route
-use Rattle.route.specs.Words.{header_text, without, Reads}
+use Rattle.route.specs.Words.{header_text, without, LineBefore, was_header, was_target, was_point, was_gap, Reads}
 use Rattle.route.specs.Words as Words
 use Rattle.route.proofs.ReadsLaws.{text_walk}
 use Rattle.writer.specs.RouteText.{field_of, target_lines, gap_before, point_line, point_lines, ended, route_text, target_refusal, text_refusal}
 
 -- ---- what is not refused
 
-pub text_accepted : (target : Target) (b : List ℤ) → text_refusal target b ≡ 0 → (buffer_refusal b ≡ 0) × (target_refusal target ≡ 0)
+pub text_accepted : (target : Option ℕ) (b : List ℤ) → text_refusal target b ≡ fine → (buffer_refusal b ≡ fine) × (target_refusal target ≡ fine)
 unfolding text_refusal
 text_accepted target b e = first_none (buffer_refusal b) (target_refusal target) e
 
@@ -41,10 +40,10 @@ pub record IsTarget (mm : ℕ) : Type 0 where
   pub whole : mm % metre ≡ 0
   pub most : mm ≤ most_target
 
-pub target_accepted : (mm : ℕ) → target_refusal (T.Millimetres mm) ≡ 0 → IsTarget mm
+pub target_accepted : (mm : ℕ) → target_refusal (Some mm) ≡ fine → IsTarget mm
 unfolding target_refusal
 target_accepted mm e =
-    let p = unless_none (eqb (mm % metre) 0 && leb mm most_target) TARGET 0 (omega arith) e in
+    let p = unless_none (eqb (mm % metre) 0 && leb mm most_target) R.Target fine e in
     let q = and_true (eqb (mm % metre) 0) (leb mm most_target) p.0 in
     record { whole = eqb-true (mm % metre) 0 q.0; most = leb-true mm most_target q.1 }
 
@@ -73,7 +72,7 @@ pub ended_append : (ss ts : List (List ℕ)) → ended (ss ++ ts) ≡ ended ss +
 ended_append [] ts = refl
 ended_append (s ∷ ss) ts = rw (ended_append ss ts, append_assoc)
 
-pub text_parts : (mark : Mark) (target : Target) (b : List ℤ)
+pub text_parts : (mark : Mark) (target : Option ℕ) (b : List ℤ)
     → route_text mark target b ≡ ended (header_text mark ∷ []) ++ (ended (target_lines mark target) ++ ended (point_lines mark b (count b)))
 unfolding route_text
 text_parts mark target b = rw (ended_append (target_lines mark target) (point_lines mark b (count b)), append_assoc)
@@ -89,20 +88,20 @@ pub header_length : (mark : Mark) → length (ended (header_text mark ∷ [])) �
 header_length M.Point = refl
 header_length M.Comma = refl
 
-pub target_length : (mark : Mark) (mm : ℕ) → length (ended (target_lines mark (T.Millimetres mm))) ≡ 3 + length (numeral_of K.Target mark (pos (mm / metre)))
+pub target_length : (mark : Mark) (mm : ℕ) → length (ended (target_lines mark (Some mm))) ≡ 3 + length (numeral_of K.Target mark (pos (mm / metre)))
 target_length mark mm = simp length-append (omega arith)
 
 pub point_length : (mark : Mark) (lat lon : ℤ)
     → length (point_line mark lat lon ++ (LF ∷ [])) ≡ 4 + length (numeral_of K.Latitude mark lat) + length (numeral_of K.Longitude mark lon)
 point_length mark lat lon = simp length-append (omega arith)
 
-pub text_length : (mark : Mark) (target : Target) (b : List ℤ)
+pub text_length : (mark : Mark) (target : Option ℕ) (b : List ℤ)
     → length (route_text mark target b) ≡ 12 + length (ended (target_lines mark target)) + length (ended (point_lines mark b (count b)))
 text_length mark target b = rw (text_parts mark target b) (simp length-append (omega (arith, simp length-append at (header_length mark))))
 
-pub target_most : (mark : Mark) (target : Target) → target_refusal target ≡ 0 → length (ended (target_lines mark target)) ≤ 10
-target_most mark T.None e = omega arith
-target_most mark (T.Millimetres mm) e =
+pub target_most : (mark : Mark) (target : Option ℕ) → target_refusal target ≡ fine → length (ended (target_lines mark target)) ≤ 10
+target_most mark None e = omega arith
+target_most mark (Some mm) e =
     omega (arith, target_length mark mm, numeral_most K.Target mark (pos (mm / metre)) (target_fits mm (target_accepted mm e)))
 
 -- what holds of a `g` line and of none
@@ -114,7 +113,7 @@ gap_most : (b : List ℤ) (i : ℕ) → length (ended (gap_before b i)) ≤ 2 - 
 gap_most b zero = omega arith
 gap_most b (suc i) = gap_says (λ ss. length (ended ss) ≤ 2 - (2 - 2 * suc i)) b (suc i) (omega arith) (omega arith)
 
-module _ (mark : Mark) (b : List ℤ) (e : buffer_refusal b ≡ 0) where
+module _ (mark : Mark) (b : List ℤ) (e : buffer_refusal b ≡ fine) where
   pub points_most : (n : ℕ) → n ≤ count b → length (ended (point_lines mark b n)) ≤ 29 * n - 2
   points_most zero h = omega arith
   points_most (suc i) h =
@@ -124,13 +123,13 @@ module _ (mark : Mark) (b : List ℤ) (e : buffer_refusal b ≡ 0) where
       rw (points_next mark b i)
       (simp length-append (omega (arith, gap_most b i, points_most i (omega arith), numeral_most K.Latitude mark lat p.latitude, numeral_most K.Longitude mark lon p.longitude)))
 
-pub text_most : (mark : Mark) (target : Target) (b : List ℤ) → text_refusal target b ≡ 0 → length (route_text mark target b) ≤ 22 + (29 * count b - 2)
+pub text_most : (mark : Mark) (target : Option ℕ) (b : List ℤ) → text_refusal target b ≡ fine → length (route_text mark target b) ≤ 22 + (29 * count b - 2)
 text_most mark target b e =
     let a = text_accepted target b e in
     omega (arith, text_length mark target b, target_most mark target a.1, points_most mark b a.0 (count b) (omega arith))
 
 -- so that it can be read
-pub text_short : (mark : Mark) (target : Target) (b : List ℤ) → text_refusal target b ≡ 0 → length (route_text mark target b) ≤ most_bytes
+pub text_short : (mark : Mark) (target : Option ℕ) (b : List ℤ) → text_refusal target b ≡ fine → length (route_text mark target b) ≤ most_bytes
 text_short mark target b e = omega (arith, text_most mark target b e, (accepted b (text_accepted target b e).0).few)
 
 -- ---- no line holds an LF
@@ -157,9 +156,9 @@ without_append (s ∷ ss) ts e f =
     let p = and_true (not (holds LF s)) (without LF ss) e in
     true_and p.0 (without_append ss ts p.1 f)
 
-target_without : (mark : Mark) (target : Target) → target_refusal target ≡ 0 → without LF (target_lines mark target) ≡ true
-target_without mark T.None e = refl
-target_without mark (T.Millimetres mm) e = rw (no_lf K.Target mark (pos (mm / metre)) (target_fits mm (target_accepted mm e)))
+target_without : (mark : Mark) (target : Option ℕ) → target_refusal target ≡ fine → without LF (target_lines mark target) ≡ true
+target_without mark None e = refl
+target_without mark (Some mm) e = rw (no_lf K.Target mark (pos (mm / metre)) (target_fits mm (target_accepted mm e)))
 
 point_without : (mark : Mark) {b : List ℤ} {i : ℕ} → Point b i → holds LF (point_line mark (latitude_at b i) (longitude_at b i)) ≡ false
 point_without mark {b} {i} p =
@@ -167,7 +166,7 @@ point_without mark {b} {i} p =
     let lon = longitude_at b i in
     rw (holds_append LF (numeral_of K.Latitude mark lat) (field_of K.Longitude mark lon), no_lf K.Latitude mark lat p.latitude, no_lf K.Longitude mark lon p.longitude)
 
-points_without : (mark : Mark) (b : List ℤ) → buffer_refusal b ≡ 0 → (n : ℕ) → n ≤ count b → without LF (point_lines mark b n) ≡ true
+points_without : (mark : Mark) (b : List ℤ) → buffer_refusal b ≡ fine → (n : ℕ) → n ≤ count b → without LF (point_lines mark b n) ≡ true
 points_without mark b e zero h = refl
 points_without mark b e (suc i) h =
     let line = point_line mark (latitude_at b i) (longitude_at b i) ∷ [] in
@@ -184,24 +183,24 @@ reads_append (Words.point e r) q = Words.point e (reads_append r q)
 reads_append (Words.gap e r) q = Words.gap e (reads_append r q)
 
 -- the line before, after n points
-abbrev before_of : Target → ℕ → ℕ
-before_of T.None zero = code "r"
-before_of (T.Millimetres mm) zero = code "t"
-before_of target (suc n) = code "p"
+abbrev before_of : Option ℕ → ℕ → LineBefore
+before_of None zero = was_header
+before_of (Some mm) zero = was_target
+before_of target (suc n) = was_point
 
-no_gap : (target : Target) (n : ℕ) → eqb (before_of target n) (code "g") ≡ false
-no_gap T.None zero = refl
-no_gap (T.Millimetres mm) zero = refl
+no_gap : (target : Option ℕ) (n : ℕ) → same_kind (before_of target n) was_gap ≡ false
+no_gap None zero = refl
+no_gap (Some mm) zero = refl
 no_gap target (suc n) = refl
 
 -- what is seen after the target and n points of b
-abbrev seen_of : Target → List ℤ → ℕ → Seen
+abbrev seen_of : Option ℕ → List ℤ → ℕ → Seen
 seen_of target b n = record { before = before_of target n; points = take (numbers * n) b; target = target }
 
-target_reads : (mark : Mark) (target : Target) (b : List ℤ) → target_refusal target ≡ 0 → Reads mark fresh (target_lines mark target) (seen_of target b 0)
+target_reads : (mark : Mark) (target : Option ℕ) (b : List ℤ) → target_refusal target ≡ fine → Reads mark fresh (target_lines mark target) (seen_of target b 0)
 unfolding line_of target_of
-target_reads mark T.None b e = Words.none
-target_reads mark (T.Millimetres mm) b e =
+target_reads mark None b e = Words.none
+target_reads mark (Some mm) b e =
     let h = target_accepted mm e in
     let v = pos (mm / metre) in
     let f = target_fits mm h in
@@ -209,13 +208,13 @@ target_reads mark (T.Millimetres mm) b e =
     Words.target {w = fresh} {s = code "t" ∷ field_of K.Target mark v} {mm = mm} (rw (last_field K.Target mark v f, numeral_back K.Target mark v f, m)) Words.none
 
 module _ (mark : Mark) (w : Seen) where
-  gap_reads : w.before ≡ code "p" → Reads mark w (bytes "g" ∷ []) (record { before = code "g"; points = w.points; target = w.target })
+  gap_reads : w.before ≡ was_point → Reads mark w (bytes "g" ∷ []) (record { before = was_gap; points = w.points; target = w.target })
   unfolding line_of gap_of
   gap_reads e = Words.gap {w = w} {s = bytes "g"} (rw e) Words.none
 
   point_reads : {b : List ℤ} {i : ℕ} → Point b i → count w.points < most_points
       → Reads mark w (point_line mark (latitude_at b i) (longitude_at b i) ∷ [])
-      (record { before = code "p"; points = w.points ++ point_numbers (latitude_at b i) (longitude_at b i) (third_of w.before); target = w.target })
+      (record { before = was_point; points = w.points ++ point_numbers (latitude_at b i) (longitude_at b i) (third_of w.before); target = w.target })
   unfolding line_of point_of
   point_reads {b} {i} p h =
       let lat = latitude_at b i in
@@ -226,14 +225,14 @@ module _ (mark : Mark) (w : Seen) where
       Words.point {w = w} {s = point_line mark lat lon} {lat = lat} {lon = lon}
       (rw (first, last, few, numeral_back K.Latitude mark lat p.latitude, numeral_back K.Longitude mark lon p.longitude)) Words.none
 
-first_third : (target : Target) (z : ℤ) → fits_after 0 z ≡ true → third_of (before_of target 0) ≡ z
+first_third : (target : Option ℕ) (z : ℤ) → fits_after 0 z ≡ true → third_of (before_of target 0) ≡ z
 first_third target z f = by_test (eq_z z (pos 1)) (λ t. one target ∙ sym (eq_z_true z (pos 1) t)) (λ t. clash f (rw t))
   where
-    one : (target : Target) → third_of (before_of target 0) ≡ pos 1
-    one T.None = refl
-    one (T.Millimetres mm) = refl
+    one : (target : Option ℕ) → third_of (before_of target 0) ≡ pos 1
+    one None = refl
+    one (Some mm) = refl
 
-module _ (mark : Mark) (target : Target) (b : List ℤ) (e : buffer_refusal b ≡ 0) where
+module _ (mark : Mark) (target : Option ℕ) (b : List ℤ) (e : buffer_refusal b ≡ fine) where
   few_before : (i : ℕ) → i < count b → count (take (numbers * i) b) < most_points
   few_before i h = omega (arith, length-take-le (numbers * i) b (omega arith), (accepted b e).few)
 
@@ -250,7 +249,7 @@ module _ (mark : Mark) (target : Target) (b : List ℤ) (e : buffer_refusal b �
       by_test (eq_z (third_at b (suc i)) (pos 1))
       (λ t.
       rw (take_point b (suc i) h, some, t, eq_z_true (third_at b (suc i)) (pos 1) t)
-      (reads_append (gap_reads mark w refl) (point_reads mark (record { before = code "g"; points = w.points; target = target }) p (few_before (suc i) h))))
+      (reads_append (gap_reads mark w refl) (point_reads mark (record { before = was_gap; points = w.points; target = target }) p (few_before (suc i) h))))
       (λ t.
       let z = and_true (leb 1 (suc i)) (eq_z (third_at b (suc i)) (pos 0)) (rw t at p.third) in
       rw (take_point b (suc i) h, some, t, eq_z_true (third_at b (suc i)) (pos 0) z.1) (point_reads mark w p (few_before (suc i) h)))
@@ -261,7 +260,7 @@ module _ (mark : Mark) (target : Target) (b : List ℤ) (e : buffer_refusal b �
 
 -- ---- the whole text
 
-module _ (mark : Mark) (target : Target) (b : List ℤ) (e : text_refusal target b ≡ 0) where
+module _ (mark : Mark) (target : Option ℕ) (b : List ℤ) (e : text_refusal target b ≡ fine) where
   abbrev lines : List (List ℕ)
   lines = target_lines mark target ++ point_lines mark b (count b)
 

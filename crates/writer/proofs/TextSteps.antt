@@ -1,11 +1,11 @@
 -- The text of a route as code counts and writes it: point by point, and as long under either mark.
 -- Assumes nothing.
-use Rattle.std.specs.Prelude.{◌≡◌, refl, Bool, true, false, ◌&&◌, List, [], ◌∷◌, ◌++◌, ℕ, zero, suc, ◌+◌, ◌/◌, ◌≤◌, ◌<◌, leb, ℤ, pos, length}
-use Rattle.std.proofs.Common.{sym, ap, ◌∙◌, arith, leb-true, leb-false, length-append}
+use Rattle.std.specs.Prelude.{◌≡◌, refl, true, false, List, [], ◌∷◌, ◌++◌, ℕ, zero, suc, ◌+◌, ◌/◌, ◌≤◌, ◌<◌, leb, ℤ, pos, length, Option, Some, None}
+use Rattle.std.proofs.Common.{sym, ap, ◌∙◌, arith, leb-true, leb-false, length-append, to_z-of_z, to_z, of_z, w32}
 use Prim.Native.Char.{code}
+use Rattle.refusals.specs.Choice.{fine}
 use Rattle.refusals.specs.Tests.{by_test}
-use Rattle.signed.specs.Tests.{eq_z}
-use Rattle.points.specs.Points.{latitude_at, longitude_at, third_at, count, buffer_refusal}
+use Rattle.points.specs.Points.{latitude_at, longitude_at, count, buffer_refusal}
 use Rattle.points.proofs.PointLaws.{point_of_lem}
 use Rattle.numbers.specs.declared.Mark.{Mark}
 use Rattle.numbers.specs.declared.Mark.TheVariants as M
@@ -13,12 +13,10 @@ use Rattle.numbers.specs.declared.Kind.TheVariants as K
 use Rattle.numbers.specs.Pieces.{LF}
 use Rattle.numerals.specs.Numeral.{numeral_of}
 use Rattle.numerals.proofs.OneWayLaws.{numeral_most, numeral_either}
-use Rattle.route.specs.declared.Target.{Target}
-use Rattle.route.specs.declared.Target.TheVariants as T
 use Rattle.route.specs.Line.{metre}
-use Rattle.writer.specs.RouteText.{target_lines, gap_before, point_line, point_lines, ended, route_text}
-use Rattle.writer.proofs.RouteTextLaws.{points_next, target_length, point_length, text_length}
-use Rattle.writer.specs.TextSteps.{has_gap, point_text}
+use Rattle.writer.specs.RouteText.{field_of, target_lines, gap_before, point_line, point_lines, ended, route_text, target_refusal}
+use Rattle.writer.proofs.RouteTextLaws.{points_next, target_length, target_accepted, target_most, point_length, text_length}
+use Rattle.writer.specs.TextSteps.{has_gap, point_text, metres_of}
 
 module _ (mark : Mark) (b : List ℤ) (i : ℕ) where
   abbrev line : List ℕ
@@ -38,12 +36,31 @@ module _ (mark : Mark) (b : List ℤ) (i : ℕ) where
     pub size_without : has_gap b i ≡ false → 4 + y + x ≡ length (point_text mark b i)
     size_without t = omega (arith, e, f, ap length (without_gap t), point_length mark (latitude_at b i) (longitude_at b i))
 
-  module _ (a : buffer_refusal b ≡ 0) (h : i < count b) where
+  module _ (a : buffer_refusal b ≡ fine) (h : i < count b) where
     pub latitude_most : length (numeral_of K.Latitude mark (latitude_at b i)) ≤ 11
     latitude_most = numeral_most K.Latitude mark (latitude_at b i) (point_of_lem b a i h).latitude
 
     pub longitude_most : length (numeral_of K.Longitude mark (longitude_at b i)) ≤ 12
     longitude_most = numeral_most K.Longitude mark (longitude_at b i) (point_of_lem b a i h).longitude
+
+-- a target's line, from its number
+module _ (mark : Mark) where
+  pub target_text : (target : Option ℕ) {m : ℤ} → metres_of target ≡ Some m → ended (target_lines mark target) ≡ code "t" ∷ (field_of K.Target mark m ++ (LF ∷ []))
+  target_text None e = absurd (grind arith)
+  target_text (Some mm) {m} e = let f : pos (mm / metre) ≡ m = cc in rw f
+
+  pub target_size : (target : Option ℕ) {m : ℤ} → metres_of target ≡ Some m → length (ended (target_lines mark target)) ≡ 3 + length (numeral_of K.Target mark m)
+  target_size target {m} e = omega (arith, ap length (target_text target e), length-append (field_of K.Target mark m) (LF ∷ []))
+
+  pub target_short : (target : Option ℕ) {m : ℤ} → metres_of target ≡ Some m → target_refusal target ≡ fine → length (numeral_of K.Target mark m) ≤ 7
+  target_short target e h = omega (arith, target_size target e, target_most mark target h)
+
+-- the machine reads the number back
+pub target_read : (target : Option ℕ) {m : ℤ} → metres_of target ≡ Some m → target_refusal target ≡ fine → to_z w32 (of_z w32 m) ≡ m
+target_read None e h = absurd (grind arith)
+target_read (Some mm) {m} e h =
+    let f : pos (mm / metre) ≡ m = cc in
+    rw (← f) (to_z-of_z {w = w32} {z = pos (mm / metre)} (record { sfits = omega (arith, (target_accepted mm h).most) }))
 
 -- one point more
 pub points_more : (mark : Mark) (b : List ℤ) (i : ℕ) → ended (point_lines mark b i) ++ point_text mark b i ≡ ended (point_lines mark b (i + 1))
@@ -86,11 +103,11 @@ points_either mark b (suc i) =
     omega (arith, points_either mark b i, point_either mark b i, points_size M.Point b i, points_size mark b i) in
     rw e at both
 
-target_either : (mark : Mark) (target : Target) → length (ended (target_lines M.Point target)) ≡ length (ended (target_lines mark target))
-target_either mark T.None = refl
-target_either mark (T.Millimetres mm) =
+target_either : (mark : Mark) (target : Option ℕ) → length (ended (target_lines M.Point target)) ≡ length (ended (target_lines mark target))
+target_either mark None = refl
+target_either mark (Some mm) =
     omega (arith, target_length M.Point mm, target_length mark mm, numeral_either K.Target M.Point mark (pos (mm / metre)))
 
-pub text_either : (mark : Mark) (target : Target) (b : List ℤ) → length (route_text M.Point target b) ≡ length (route_text mark target b)
+pub text_either : (mark : Mark) (target : Option ℕ) (b : List ℤ) → length (route_text M.Point target b) ≡ length (route_text mark target b)
 text_either mark target b =
     omega (arith, text_length M.Point target b, text_length mark target b, target_either mark target, points_either mark b (count b))

@@ -1,9 +1,9 @@
 -- The text of a route: from a point buffer, "an optional unsigned target in millimetres and a mark". And what refuses it.
 -- Assumes nothing.
-use Rattle.std.specs.Prelude.{◌&&◌, List, [], ◌∷◌, ◌++◌, ℕ, zero, suc, ◌/◌, ◌%◌, leb, eqb, ℤ, pos, if◌then◌else◌}
+use Rattle.std.specs.Prelude.{◌&&◌, List, [], ◌∷◌, ◌++◌, ℕ, zero, suc, ◌/◌, ◌%◌, leb, eqb, ℤ, pos, if◌then◌else◌, Option, Some, None, Err}
 use Prim.Native.Char.{code}
-use Rattle.refusals.specs.Refusal.{TARGET}
-use Rattle.refusals.specs.Choice.{unless, first_of}
+use Rattle.refusals.specs.declared.Refusal.TheVariants as R
+use Rattle.refusals.specs.Choice.{unless, Check, fine, first_of}
 use Rattle.signed.specs.Tests.{eq_z}
 use Rattle.points.specs.Points.{latitude_at, longitude_at, third_at, count, buffer_refusal}
 use Rattle.numbers.specs.declared.Mark.{Mark}
@@ -13,8 +13,6 @@ use Rattle.numbers.specs.Pieces.{LF, TAB}
 use Rattle.numbers.specs.Text.{bytes}
 use Rattle.numerals.specs.Numeral.{numeral_of}
 use Rattle.globe.specs.Met.{most_target}
-use Rattle.route.specs.declared.Target.{Target}
-use Rattle.route.specs.declared.Target.TheVariants as T
 use Rattle.route.specs.Line.{metre}
 use Rattle.route.specs.Words.{header_text}
 
@@ -24,9 +22,9 @@ use Rattle.route.specs.Words.{header_text}
 abbrev pub field_of : Kind → Mark → ℤ → List ℕ
 field_of kind mark v = TAB ∷ numeral_of kind mark v
 
-abbrev pub target_lines : Mark → Target → List (List ℕ)
-target_lines mark T.None = []
-target_lines mark (T.Millimetres mm) = (code "t" ∷ field_of K.Target mark (pos (mm / metre))) ∷ []
+abbrev pub target_lines : Mark → Option ℕ → List (List ℕ)
+target_lines mark None = []
+target_lines mark (Some mm) = (code "t" ∷ field_of K.Target mark (pos (mm / metre))) ∷ []
 
 -- "A `g` line precedes every point after the first whose third number is 1."
 abbrev pub gap_before : List ℤ → ℕ → List (List ℕ)
@@ -47,16 +45,16 @@ abbrev pub ended : List (List ℕ) → List ℕ
 ended [] = []
 ended (s ∷ ss) = s ++ (LF ∷ ended ss)
 
-unfoldable pub route_text : Mark → Target → List ℤ → List ℕ
+unfoldable pub route_text : Mark → Option ℕ → List ℤ → List ℕ
 route_text mark target points = ended (header_text mark ∷ (target_lines mark target ++ point_lines mark points (count points)))
 
 -- ---- what refuses it
 
 -- "target not a whole number of metres or above 999,999,000 mm"
-unfoldable pub target_refusal : Target → ℕ
-target_refusal T.None = 0
-target_refusal (T.Millimetres mm) = unless (eqb (mm % metre) 0 && leb mm most_target) TARGET 0
+unfoldable pub target_refusal : Option ℕ → Check
+target_refusal None = fine
+target_refusal (Some mm) = unless (eqb (mm % metre) 0 && leb mm most_target) (Err R.Target) fine
 
 -- "order 17, 9, 6 and 7 by point, 16, 15": 15 is judged by the room
-unfoldable pub text_refusal : Target → List ℤ → ℕ
+unfoldable pub text_refusal : Option ℕ → List ℤ → Check
 text_refusal target points = first_of (buffer_refusal points) (target_refusal target)

@@ -1,22 +1,12 @@
 -- The text of a route as code counts and writes it: point by point, and as long under either mark.
 -- Assumes nothing.
-use Rattle.std.specs.Prelude.{◌≡◌, refl, Bool, true, false, ◌&&◌, List, [], ◌∷◌, ◌++◌, ℕ, zero, suc, ◌+◌, ◌/◌, ◌≤◌, ◌<◌, leb, ℤ, pos, length}
-use Rattle.std.proofs.Common.{sym, ap, ◌∙◌, arith, leb-true, leb-false, length-append}
-use Prim.Native.Char.{code}
-use Rattle.refusals.specs.Tests.{by_test}
+use Rattle.std.specs.Prelude.{Bool, ◌&&◌, List, [], ◌∷◌, ◌++◌, ℕ, ◌/◌, leb, ℤ, pos, Option, Some, None}
 use Rattle.signed.specs.Tests.{eq_z}
-use Rattle.points.specs.Points.{latitude_at, longitude_at, third_at, count, buffer_refusal}
-use Rattle.points.proofs.PointLaws.{point_of_lem}
+use Rattle.points.specs.Points.{latitude_at, longitude_at, third_at}
 use Rattle.numbers.specs.declared.Mark.{Mark}
-use Rattle.numbers.specs.declared.Mark.TheVariants as M
-use Rattle.numbers.specs.declared.Kind.TheVariants as K
 use Rattle.numbers.specs.Pieces.{LF}
-use Rattle.numerals.specs.Numeral.{numeral_of}
-use Rattle.numerals.proofs.OneWayLaws.{numeral_most, numeral_either}
-use Rattle.route.specs.declared.Target.{Target}
-use Rattle.route.specs.declared.Target.TheVariants as T
 use Rattle.route.specs.Line.{metre}
-use Rattle.writer.specs.RouteText.{target_lines, gap_before, point_line, point_lines, ended, route_text}
+use Rattle.writer.specs.RouteText.{gap_before, point_line, ended}
 
 abbrev pub has_gap : List ℤ → ℕ → Bool
 has_gap b i = leb 1 i && eq_z (third_at b i) (pos 1)
@@ -24,3 +14,8 @@ has_gap b i = leb 1 i && eq_z (third_at b i) (pos 1)
 -- of point i, with the gap before it
 abbrev pub point_text : Mark → List ℤ → ℕ → List ℕ
 point_text mark b i = ended (gap_before b i) ++ (point_line mark (latitude_at b i) (longitude_at b i) ++ (LF ∷ []))
+
+-- a target's number, as its line has it
+abbrev pub metres_of : Option ℕ → Option ℤ
+metres_of None = None
+metres_of (Some mm) = Some (pos (mm / metre))

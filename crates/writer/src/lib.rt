@@ -2,71 +2,67 @@
 #![tactic(auto)]
 
 ghost use Rattle.std.specs.Prelude.{◌≡◌, ◌-◌};
+ghost use Rattle.refusals.specs.Choice.{answered};
 ghost use Rattle.numerals.specs.Output.{writing_of, output_of};
-ghost use Rattle.writer.specs.RouteText.{route_text, target_refusal, text_refusal};
+ghost use Rattle.writer.specs.RouteText.{route_text, text_refusal};
 ghost use Rattle.writer.specs.Room.{size_of};
 
 mod lines;
 mod sizes;
+mod target;
 
-use globe::MOST_TARGET;
+use crate::target::Target;
 use numbers::Mark;
-use numerals::Writing;
-use points::buffer_refusal;
-use refusals::{OUTPUT, TARGET, first_of};
-use route::{METRE, Target};
+use points::Points;
+use refusals::Refusal;
 
 // The most bytes that the text of 1,000 points has: room for every route.
 pub const MOST_WRITTEN: usize = 29_020;
 
-// 0 where the target is accepted.
-#[tactic(auto, unfolding(crate::specs::RouteText::target_refusal))]
-fn target_refusal(target: Target) -> u32
-    ensures { result ≡ target_refusal target }
-{
-    let Target::Millimetres(millimetres) = target else {
-        return 0;
-    };
-    if (millimetres % METRE == 0) & (millimetres <= MOST_TARGET) {
-        return 0;
-    }
-    TARGET
+// What a text is written from, where nothing refuses it.
+#[derive(Drop)]
+pub(crate) struct Text<'a> {
+    points: Points<'a>,
+    target: Target,
 }
 
-// What an output of so many bytes has from the place on.
-fn room(bytes: usize, place: usize) -> usize
-    ensures { result ≡ bytes - place }
-{
-    if place < bytes {
-        return bytes - place;
+impl<'a> Text<'a> {
+    #[tactic(auto, unfolding(crate::specs::RouteText::text_refusal))]
+    fn new(points: &'a [i32], target: Option<u64>) -> Result<Text<'a>, Refusal>
+        ensures { result ≡ answered (text_refusal target points.now) (record { points = points.now; target = target }) }
+    {
+        Ok(Text {
+            points: Points::new(points)?,
+            target: Target::new(target)?,
+        })
     }
-    0
 }
 
 // How many bytes the text of a route has, which `write` asks before it writes. They are as many under either mark.
-#[tactic(auto, using(crate::proofs::TextSteps::text_either, crate::proofs::RoomLaws::size_refused, crate::proofs::RoomLaws::size_told))]
-pub fn size(points: &[i32], target: Target, mark: Mark) -> Writing
+#[tactic(auto, using(crate::proofs::TextSteps::text_either), unfolding(crate::specs::Room::size_of))]
+pub fn size(points: &[i32], target: Option<u64>, mark: Mark) -> Result<usize, Refusal>
     ensures { result ≡ size_of mark target points.now }
 {
-    let refusal = first_of(buffer_refusal(points), target_refusal(target));
-    if refusal != 0 {
-        return Writing::Refused(refusal);
-    }
-    Writing::Bytes(sizes::text_size(points, target))
+    Ok(Text::new(points, target)?.size())
 }
 
 // The text of a route into the output from the place on. Nothing else in the output changes, and nothing at all where the text is refused.
-pub fn write(points: &[i32], target: Target, mark: Mark, out: &mut [u8], place: usize) -> Writing
+#[tactic(auto, using(numerals::proofs::OutputLaws::room_refused, numerals::proofs::OutputLaws::text_written, numerals::proofs::OutputLaws::output_sets, crate::proofs::RouteTextLaws::text_length, crate::proofs::TextSteps::text_either))]
+pub fn write(
+    points: &[i32],
+    target: Option<u64>,
+    mark: Mark,
+    out: &mut [u8],
+    place: usize,
+) -> Result<usize, Refusal>
     ensures answer { result ≡ writing_of (text_refusal target points.now) (route_text mark target points.now) place out.old }
     ensures left { out.new ≡ output_of (text_refusal target points.now) (route_text mark target points.now) place out.old }
 {
-    let sized = size(points, target, mark);
-    let Writing::Bytes(n) = sized else {
-        return sized;
-    };
-    if room(out.len(), place) < n {
-        return Writing::Refused(OUTPUT);
+    let text = Text::new(points, target)?;
+    let n = text.size();
+    if out.len().saturating_sub(place) < n {
+        return Err(Refusal::Output);
     }
-    lines::put_text(out, place, points, target, mark);
-    sized
+    text.put(out, place, mark);
+    Ok(n)
 }

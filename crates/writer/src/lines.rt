@@ -1,31 +1,21 @@
 // The lines of a route's text into the output, each from a place on; what follows goes to the place that is answered.
+// Kept: an output and a place, since a struct of both would be lent anew for each line, and its contracts would say the same of both.
 ghost use Rattle.std.specs.Prelude.{◌≡◌, [], ◌∷◌, ◌++◌, ◌+◌, ◌≤◌, length};
 ghost use Rattle.std.proofs.lemmas.List.Edits.{sets};
 ghost use Rattle.points.specs.Points.{count};
-ghost use Rattle.numerals.specs.Paper.{writing_paper};
 ghost use Rattle.numbers.specs.Pieces.{LF};
 ghost use Rattle.route.specs.Words.{header_text};
-ghost use Rattle.writer.specs.RouteText.{field_of, target_lines, point_line, point_lines, ended, route_text, target_refusal};
+ghost use Rattle.writer.specs.RouteText.{field_of, target_lines, point_line, point_lines, ended, route_text};
 ghost use Rattle.writer.specs.TextSteps.{has_gap, point_text};
 
+use crate::Text;
+use crate::target::Target;
 use numbers::pieces::{LF, TAB};
 use numbers::{Kind, Mark};
-use numerals::{Writing, write};
-use points::{count, latitude, longitude, third};
-use route::{METRE, Target};
-
-// 0 beside a refusal; where there is room, a number has none.
-fn bytes(writing: Writing) -> usize
-    ensures { result ≡ (writing_paper writing).bytes }
-{
-    match writing {
-        Writing::Bytes(n) => n,
-        Writing::Refused(_) => 0,
-    }
-}
+use numerals::write;
+use points::Points;
 
 // A value, and the tab before it.
-#[tactic(auto, using(numerals::proofs::Stands::lent_length, numerals::proofs::Stands::sets_lent, numerals::proofs::Stands::stands_none, numerals::proofs::Stands::stands_byte, numerals::proofs::Stands::stands_more, numerals::proofs::Stands::stands_length, numerals::proofs::Stands::stands_all, numerals::proofs::OutputLaws::text_written, numerals::proofs::OutputLaws::output_sets))]
 fn put_field(out: &mut [u8], at: usize, value: i32, kind: Kind, mark: Mark) -> usize
     requires { at + length (field_of kind mark value) ≤ length out.old }
     ensures next { result ≡ at + length (field_of kind mark value) }
@@ -33,7 +23,8 @@ fn put_field(out: &mut [u8], at: usize, value: i32, kind: Kind, mark: Mark) -> u
 {
     out[at] = TAB;
     let from = at + 1;
-    from + bytes(write(value, kind, mark, &mut out[from..]))
+    // where there is room, a number is not refused
+    from + write(value, kind, mark, &mut out[from..]).unwrap_or(0)
 }
 
 fn put_bytes(out: &mut [u8], at: usize, s: &[u8]) -> usize
@@ -41,12 +32,9 @@ fn put_bytes(out: &mut [u8], at: usize, s: &[u8]) -> usize
     ensures next { result ≡ at + length s.now }
     ensures left { out.new ≡ sets out.old at s.now }
 {
-    let mut i = 0;
-    while i < s.len() {
-        out[at + i] = s[i];
-        i += 1;
-    }
-    at + i
+    let end = at + s.len();
+    out[at..end].copy_from_slice(s);
+    end
 }
 
 #[tactic(auto, using(crate::proofs::RouteTextLaws::header_length))]
@@ -61,24 +49,17 @@ fn put_header(out: &mut [u8], at: usize, mark: Mark) -> usize
     }
 }
 
-#[tactic(auto, using(numerals::proofs::Stands::stands_none, numerals::proofs::Stands::stands_byte, numerals::proofs::Stands::stands_more, numerals::proofs::Stands::stands_length, numerals::proofs::Stands::stands_as, numerals::proofs::Stands::stands_all, crate::proofs::RouteTextLaws::target_accepted))]
-fn put_target(out: &mut [u8], at: usize, target: Target, mark: Mark) -> usize
-    requires target_value { target_refusal target ≡ 0 }
-    requires target_in_bounds { at + length (ended (target_lines mark target)) ≤ length out.old }
-    ensures next { result ≡ at + length (ended (target_lines mark target)) }
-    ensures left { out.new ≡ sets out.old at (ended (target_lines mark target)) }
+#[tactic(auto, using(numerals::proofs::Stands::stands_none, numerals::proofs::Stands::stands_byte, numerals::proofs::Stands::stands_more, numerals::proofs::Stands::stands_length, numerals::proofs::Stands::stands_as, numerals::proofs::Stands::stands_all))]
+fn put_target(out: &mut [u8], at: usize, target: &Target, mark: Mark) -> usize
+    requires { at + length (ended (target_lines mark target.now)) ≤ length out.old }
+    ensures next { result ≡ at + length (ended (target_lines mark target.now)) }
+    ensures left { out.new ≡ sets out.old at (ended (target_lines mark target.now)) }
 {
-    let Target::Millimetres(millimetres) = target else {
+    let Some(metres) = target.metres() else {
         return at;
     };
     out[at] = b't';
-    let end = put_field(
-        out,
-        at + 1,
-        (millimetres / METRE) as i32,
-        Kind::Target,
-        mark,
-    );
+    let end = put_field(out, at + 1, metres, Kind::Target, mark);
     out[end] = LF;
     end + 1
 }
@@ -97,20 +78,20 @@ fn put_line(out: &mut [u8], at: usize, latitude: i32, longitude: i32, mark: Mark
 }
 
 // A `g` line stands before the point.
-pub(crate) fn has_gap(points: &[i32], i: usize) -> bool
+pub(crate) fn has_gap(points: &Points, i: usize) -> bool
     ensures { result ≡ has_gap points.now i }
 {
-    (1 <= i) & (third(points, i) == 1)
+    (1 <= i) & (points.third(i) == 1)
 }
 
 // With the gap before it.
-fn put_point(out: &mut [u8], at: usize, points: &[i32], i: usize, mark: Mark) -> usize
+fn put_point(out: &mut [u8], at: usize, points: &Points, i: usize, mark: Mark) -> usize
     requires { at + length (point_text mark points.now i) ≤ length out.old }
     ensures next { result ≡ at + length (point_text mark points.now i) }
     ensures left { out.new ≡ sets out.old at (point_text mark points.now i) }
 {
-    let y = latitude(points, i);
-    let x = longitude(points, i);
+    let y = points.latitude(i);
+    let x = points.longitude(i);
     if has_gap(points, i) {
         out[at] = b'g';
         out[at + 1] = LF;
@@ -119,25 +100,23 @@ fn put_point(out: &mut [u8], at: usize, points: &[i32], i: usize, mark: Mark) ->
     put_line(out, at, y, x, mark)
 }
 
-fn put_points(out: &mut [u8], at: usize, points: &[i32], mark: Mark)
+fn put_points(out: &mut [u8], at: usize, points: &Points, mark: Mark)
     requires { at + length (ended (point_lines mark points.now (count points.now))) ≤ length out.old }
     ensures { out.new ≡ sets out.old at (ended (point_lines mark points.now (count points.now))) }
 {
-    let n = count(points);
     let mut next = at;
-    let mut i = 0;
-    while i < n {
+    for i in 0..points.count() {
         next = put_point(out, next, points, i, mark);
-        i += 1;
     }
 }
 
-pub(crate) fn put_text(out: &mut [u8], at: usize, points: &[i32], target: Target, mark: Mark)
-    requires target_value { target_refusal target ≡ 0 }
-    requires points_in_bounds { at + length (route_text mark target points.now) ≤ length out.old }
-    ensures { out.new ≡ sets out.old at (route_text mark target points.now) }
-{
-    let second = put_header(out, at, mark);
-    let third = put_target(out, second, target, mark);
-    put_points(out, third, points, mark);
+impl<'a> Text<'a> {
+    pub(crate) fn put(&self, out: &mut [u8], at: usize, mark: Mark)
+        requires { at + length (route_text mark self.now.target self.now.points) ≤ length out.old }
+        ensures { out.new ≡ sets out.old at (route_text mark self.now.target self.now.points) }
+    {
+        let second = put_header(out, at, mark);
+        let third = put_target(out, second, &self.target, mark);
+        put_points(out, third, &self.points, mark);
+    }
 }

@@ -8,4 +8,4 @@ pub overflow_add-sum : goal.overflow_add-sum
 unfolding length_up_to
 overflow_add-sum c =
     let b = c.args.points.now in
-    omega (arith, length_longest b (suc c.loop-i.i), accepted b c.requires.points_value, c.count-n.ensures)
+    omega (arith, length_longest b (suc c.loop-i.i), accepted b c.count-i-end.ensures.accepted, c.count-i-end.ensures.number)

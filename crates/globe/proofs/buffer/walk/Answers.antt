@@ -16,13 +16,13 @@ unfolding length_up_to
 overflow_add-sum c =
     let b = c.args.points.now in
     let t = and_true (ltb c.loop-sum.sum c.args.target) (ltb c.loop-sum.i c.count-n.result) c.loop-sum-test.true in
-    omega (arith, ltb-true _ _ t.0, ltb-true _ _ t.1, length_longest b (suc c.loop-sum.i), accepted b c.requires.points_value, c.count-n.ensures)
+    omega (arith, ltb-true _ _ t.0, ltb-true _ _ t.1, length_longest b (suc c.loop-sum.i), accepted b c.count-n.ensures.accepted, c.count-n.ensures.number)
 
 pub overflow_cast-looked_at : goal.overflow_cast-looked_at
-overflow_cast-looked_at c = omega (arith, c.loop-sum.invariant.0, accepted c.args.points.now c.requires.points_value, c.count-n.ensures)
+overflow_cast-looked_at c = omega (arith, c.loop-sum.invariant.0, accepted c.args.points.now c.count-n.ensures.accepted, c.count-n.ensures.number)
 
 inside : (c : After-loop-sum) → c.loop-sum.i ≤ count c.args.points.now
-inside c = omega (arith, c.loop-sum.invariant.0, c.count-n.ensures)
+inside c = omega (arith, c.loop-sum.invariant.0, c.count-n.ensures.number)
 
 -- the beginning at which it stops is the shortest that reaches the target, or the whole
 stops : (c : After-loop-sum) → (c.loop-sum.i < count c.args.points.now → c.args.target ≤ length_up_to c.args.points.now c.loop-sum.i)
@@ -47,6 +47,6 @@ returns c =
     let b = c.args.points.now in
     let at = (goal.at.returns c).After-loop-sum in
     let over = ltb-false c.loop-sum.i c.count-n.result (rw (lt-ltb c.loop-sum.sum c.args.target c.if-target-sum.false) at c.loop-sum-test.false) in
-    let all : c.loop-sum.i ≡ count b = omega (arith, over, inside at, c.count-n.ensures) in
+    let all : c.loop-sum.i ≡ count b = omega (arith, over, inside at, c.count-n.ensures.number) in
     rw (lt-leb c.args.target (length_up_to b (count b)) (rw (← all, ← c.loop-sum.invariant.1) c.if-target-sum.false))
     (ap No (stops at (λ l. absurd (omega arith))))

@@ -1,14 +1,8 @@
--- `lacks` meets its contract. The loop's invariant: where `none` is still true, no `b` stands before the place that is looked at next.
--- The measure is what is left of the stride.
+-- `lacks` meets its contract. The loop's invariant: `none` says whether the bytes that were looked at lack `b`.
 -- Assumes nothing.
-use mathlib.Core.Path.{◌≡◌}
-use mathlib.Core.Bool.{true}
-use Prim.Native.Nat.{◌+◌, ◌-◌, ◌≤◌}
-use Rattle.numbers.specs.PieceLaws.{stride, NoneBefore}
+use Rattle.std.specs.Prelude.{◌≡◌, not, take}
+use Rattle.numbers.specs.Pieces.{holds}
 use Rattle.numbers.proofs.pieces.lacks.Given as goal
 
-abbrev pub invariant-loop-k : goal.invariant-loop-k
-invariant-loop-k l = (l.k ≤ stride) × (l.none ≡ true → NoneBefore l.b l.s (l.i + l.k))
-
-abbrev pub decreases-loop-k : goal.decreases-loop-k
-decreases-loop-k l = stride - l.k
+abbrev pub invariant-loop-x : goal.invariant-loop-x
+invariant-loop-x l = l.none ≡ not (holds l.b (take l.x-index l.stride))

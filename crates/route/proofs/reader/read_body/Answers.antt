@@ -1,7 +1,7 @@
 -- The points of an accepted text are copied to the start of the lent buffer, where the globe measures them and refuses none.
-use Rattle.std.proofs.Common.{◌≡◌, ℕ, ◌*◌, ◌≤◌, List, ℤ, length, take, sym, ap, ◌∙◌, arith}
+use Rattle.refusals.specs.declared.Refusal.{Refusal}
+use Rattle.std.proofs.Common.{Result, ◌≡◌, ℕ, ◌*◌, ◌≤◌, List, ℤ, length, take, sym, ap, ◌∙◌, arith}
 use lib.Seq.{length-take-le, take_at}
-use Rattle.globe.specs.declared.Length.{Length}
 use Rattle.points.specs.Points.{numbers, most_points}
 use Rattle.globe.specs.Measure.{length_up_to, measure_of}
 use Rattle.globe.specs.Paper.{length_paper}
@@ -32,23 +32,23 @@ module _ (mark : Mark) (buffer own : List ℤ) (pieces : List (List ℕ)) (st : 
 
 pub copy-requires-clause-n_in_bounds_2 : goal.copy-requires-clause-n_in_bounds_2
 copy-requires-clause-n_in_bounds_2 c =
-    let own = c.read_lines-judged.new.own in
-    let long : numbers * most_points ≤ length own = omega (arith, c.read_lines-judged.auto.own, c.requires.most_points_in_bounds) in
-    room c.args.mark c.args.buffer.now own (split LF c.args.text.now) c.in-Accepted.st c.in-Accepted.ensures.few long (sym c.in-Accepted.ensures.walked)
+    let own = c.read_lines.new.own in
+    let long : numbers * most_points ≤ length own = omega (arith, c.read_lines.auto.own, c.requires.most_points_in_bounds) in
+    room c.args.mark c.args.buffer.now own (split LF c.args.text.now) c.in_ok-st.st (rw c.in_ok-st.was at c.read_lines.ensures.few) long (sym (rw c.in_ok-st.was at c.read_lines.ensures.walked))
 
-pub returns-in-Accepted-clause-answer : goal.returns-in-Accepted-clause-answer
-returns-in-Accepted-clause-answer c =
-    let own = c.read_lines-judged.new.own in
-    let st = c.in-Accepted.st in
+pub returns-clause-answer : goal.returns-clause-answer
+returns-clause-answer c =
+    let own = c.read_lines.new.own in
+    let st = c.in_ok-st.st in
     let n = numbers * st.points in
     let pieces = split LF c.args.text.now in
-    let few = c.in-Accepted.ensures.few in
-    let long : numbers * most_points ≤ length own = omega (arith, c.read_lines-judged.auto.own, c.requires.most_points_in_bounds) in
-    let judged : walk_from c.args.mark (length c.args.buffer.now) 2 fresh pieces ≡ accepted (seen_in st own) = sym c.in-Accepted.ensures.walked in
+    let few : c.in_ok-st.st.points ≤ most_points = (rw c.in_ok-st.was at c.read_lines.ensures.few) in
+    let long : numbers * most_points ≤ length own = omega (arith, c.read_lines.auto.own, c.requires.most_points_in_bounds) in
+    let judged : walk_from c.args.mark (length c.args.buffer.now) 2 fresh pieces ≡ accepted (seen_in st own) = sym (rw c.in_ok-st.was at c.read_lines.ensures.walked) in
     let s = some c.args.mark c.args.buffer.now own pieces st few long judged in
     let filled : take n c.copy.new.buffer ≡ take n own = ap (take n) c.copy.ensures ∙ take_at (take n own) _ n s in
     let l = c.measure.ensures ∙ ap measure_of filled ∙ measured (all c.args.mark c.args.buffer.now own pieces st few long judged).reads in
     let k = seen_count st.points own (held c.args.mark c.args.buffer.now own pieces st few long judged) in
-    let mm : c.millimetres-length.result ≡ length_up_to (take n own) st.points
-    = c.millimetres-length.ensures ∙ ap (λ (x : Length). (length_paper x).millimetres) l ∙ ap (length_up_to (take n own)) k in
+    let mm : c.millimetres.result ≡ length_up_to (take n own) st.points
+    = c.millimetres.ensures ∙ ap (λ (x : Result ℕ Refusal). (length_paper x).millimetres) l ∙ ap (length_up_to (take n own)) k in
     rw (judged, k, mm)

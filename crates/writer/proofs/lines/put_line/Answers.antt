@@ -1,5 +1,4 @@
-use Rattle.std.proofs.Common.{◌≡◌, List, [], ◌∷◌, ◌++◌, ℕ, ◌+◌, length, arith}
-use Rattle.std.proofs.Math.ListN.{set}
+use Rattle.std.proofs.Common.{◌∷◌, ◌++◌}
 use Prim.Native.Char.{code}
 use mir.Facts.{to_z-of_z}
 use Rattle.numbers.specs.declared.Kind.TheVariants as K
