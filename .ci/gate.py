@@ -13,7 +13,7 @@ import time
 # Each part, the folder that it is run in, and how many things it has to count: one that is gone is missed, and one that is new is counted in here.
 # A part without a number is one thing.
 PARTS = (
-    ('rt ci', '.', 276),  # 17 crates and 259 edits
+    ('rt ci', '.', 283),  # 17 crates and 266 edits
     ('rt lib', 'crates/senruhobi', None),
     ('tests/run', '.', 197),
 )

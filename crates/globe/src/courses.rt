@@ -42,21 +42,26 @@ fn scaled(a: i64, b: i64) -> i64
 }
 
 impl Latitude {
-    #[tactic(auto, using(crate::proofs::AngleLaws::cosine_top))]
+    #[tactic(auto, using(signed::specs::Machine::at64, signed::specs::Machine::kept, ticks::proofs::TickLaws::latitude_angle, ticks::proofs::TickLaws::latitude_fits))]
+    fn angle(self) -> Angle
+        ensures { result.ticks ≡ self.ticks }
+    {
+        Angle {
+            ticks: self.ticks as i64,
+        }
+    }
+
+    #[tactic(auto, using(crate::proofs::CourseLaws::offset_cosine_latitude))]
     fn cosine(self) -> i64
         ensures { result ≡ pos (short_cosine self.ticks) }
     {
-        self.short_cosine() as i64
+        self.angle().cosine()
     }
 
-    #[tactic(auto, using(signed::specs::Machine::at64, signed::specs::Machine::kept, ticks::proofs::TickLaws::latitude_angle, ticks::proofs::TickLaws::latitude_fits))]
     fn sine(self) -> i64
         ensures { result ≡ short_around self.ticks }
     {
-        let angle = Angle {
-            ticks: self.ticks as i64,
-        };
-        angle.short_sine()
+        self.angle().short_sine()
     }
 }
 

@@ -1,4 +1,4 @@
-// The ways back, by a search of the table of sines for the last row at or below a number.
+// A search by halving, over any test; and by it the ways back, by a search of the table of sines for the last row at or below a number.
 ghost use Rattle.std.specs.Prelude.{◌≡◌, Bool, ℕ, true, false, ◌+◌, ◌≤◌, ◌<◌};
 ghost use Rattle.sines.specs.Sine.{step, step_halves};
 ghost use Rattle.sines.specs.BackLaws.{LastRow, LastAngle};
@@ -7,8 +7,8 @@ use crate::lookup::{QUARTER_HALVES, ROWS, STEP_HALVES};
 use sines::entry;
 
 // The last number below `count` at which `test` holds, 0 where it holds at none. What has failed at a number fails at every later one, so each
-// turn halves what is left: it is among the `left` from `low` on. A turn goes on alike from either half, so that it compiles to no branch, since none
-// could be foretold.
+// turn halves what is left: it is among the `left` from `low` on. A turn goes on alike from either half, so that over the rows of the table
+// it compiles to no branch, since none could be foretold.
 // Kept: std's `partition_point` searches a slice, and the angles of a row are none.
 pub(crate) fn last<F: Fn(usize) -> bool>(count: usize, test: F) -> usize
     requires some { 0 < count }

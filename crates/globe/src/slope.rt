@@ -37,6 +37,8 @@ impl Sizes {
         requires { k ≤ rows }
         ensures { result ≡ row_reaches self.d self.n k }
     {
+        // k itself; so the compiler sees that both entries are there, and needs no branch to look
+        let k = k.min(ROWS);
         entry(k) / SHORTENING * self.d <= entry(ROWS - k) / SHORTENING * self.n
     }
 

@@ -1,10 +1,10 @@
 -- Laws of the pieces of a text: how a search walks it, and how its pieces follow from the place of the first byte that parts them.
 -- Assumes nothing.
-use Rattle.std.specs.Prelude.{◌≡◌, refl, true, false, ◌&&◌, ◌||◌, List, [], ◌∷◌, ◌++◌, ℕ, zero, suc, ◌+◌, ◌-◌, ◌*◌, ◌≤◌, ◌<◌, T, eqb, ltb, length, take, drop, get_or, nat_eq, Bool, Option, Some, None, unwrap_or, cond, not}
+use Rattle.std.specs.Prelude.{◌≡◌, refl, true, false, ◌&&◌, ◌||◌, List, [], ◌∷◌, ◌++◌, ℕ, zero, suc, ◌+◌, ◌-◌, ◌*◌, ◌≤◌, ◌<◌, T, eqb, ltb, length, take, drop, get_or, nat_eq, Bool, ◌⊎◌, Option, Some, None, unwrap_or, cond, not}
 use Rattle.std.specs.List.{list_any, position_or_len}
 use Rattle.std.specs.Simd.{first_chunks}
 use lib.Pointwise.{pointwise}
-use Rattle.std.proofs.Common.{sym, ap, subst, ◌∙◌, zero-add, add-zero, le_of_eq, add-one, arith, lt-ltb, le-ltb, ltb-true, ltb-false, eq-eqb, eqb-true, ne_eqb, length-drop, drop_of_length-le, drop-cons, take_all, drop-drop, mul-le-mul_right}
+use Rattle.std.proofs.Common.{inl, inr, sym, ap, subst, ◌∙◌, zero-add, add-zero, le_of_eq, add-one, arith, lt-ltb, le-ltb, ltb-true, ltb-false, eq-eqb, eqb-true, ne_eqb, length-drop, drop_of_length-le, drop-cons, take_all, drop-drop, mul-le-mul_right}
 use Rattle.std.proofs.lemmas.List.Sums.{prefix_len-le-length}
 use Rattle.std.proofs.Math.Dec.{leb-suc-suc}
 use Rattle.std.proofs.Math.Seq.{split_at, take-suc}
@@ -264,6 +264,24 @@ same_pointwise [] [] = refl
 same_pointwise [] (y ∷ t) = refl
 same_pointwise (x ∷ s) [] = refl
 same_pointwise (x ∷ s) (y ∷ t) = rw (same_pointwise s t)
+
+-- texts of one length differ at some place
+differ : (a b : List ℕ) → length a ≡ length b → same a b ≡ false → (i : ℕ) × (i < length a) × (get_or a i 0 ≡ get_or b i 0 → ⊥)
+differ [] [] h e = clash refl e
+differ [] (y ∷ t) h e = absurd (omega arith)
+differ (x ∷ s) [] h e = absurd (omega arith)
+differ (x ∷ s) (y ∷ t) h e =
+    by_test (eqb x y)
+    (λ q. let r = differ s t (omega arith) (rw q at e) in (suc r.0, omega (arith, r.1), r.2))
+    (λ q. (0, omega arith, λ p. clash (eq-eqb x y p) q))
+
+-- or are one text
+pub same_or_differ : (a b : List ℕ) → length a ≡ length b
+    → ((same a b ≡ true) × (a ≡ b)) ⊎ ((same a b ≡ false) × (i : ℕ) × (i < length a) × (get_or a i 0 ≡ get_or b i 0 → ⊥))
+same_or_differ a b h =
+    by_test (same a b)
+    (λ t. inl (t, same_is a b t))
+    (λ t. let r = differ a b h t in inr (t, r.0, r.1, r.2))
 
 pub same_end : (a b : List ℕ) (i : ℕ) → length a ≤ i → length b ≤ i → same (drop i a) (drop i b) ≡ true
 same_end a b i p q = rw (drop_of_length-le a p, drop_of_length-le b q)

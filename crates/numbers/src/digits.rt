@@ -1,7 +1,7 @@
 // Digits: read from the left, with a mark among them, and with a sign.
 ghost use Rattle.std.specs.Prelude.{◌≡◌, ◌+◌, ◌*◌, ◌^◌, ◌≤◌, ◌<◌, pos, length};
 ghost use Rattle.numbers.specs.Number.{named_byte};
-ghost use Rattle.numbers.specs.DigitLaws.{most_digits, value_from, leading};
+ghost use Rattle.numbers.specs.DigitLaws.{most_digits, is_digit, value_from, leading};
 ghost use Rattle.numbers.specs.NumberLaws.{signed, amount_of};
 
 use crate::{Kind, Mark};
@@ -16,6 +16,12 @@ pub(crate) struct Digits {
     pub value: u64,
 }
 
+fn is_digit(b: u8) -> bool
+    ensures { result ≡ is_digit b }
+{
+    b.is_ascii_digit()
+}
+
 // The digits that stand first, at most `most`, read on from those that make `n`.
 fn leading(s: &[u8], most: usize, n: u64) -> Digits
     requires { (n + 1) * 10 ^ most ≤ 10 ^ most_digits }
@@ -25,7 +31,7 @@ fn leading(s: &[u8], most: usize, n: u64) -> Digits
     let first = &s[..most.min(s.len())];
     let mut value = n;
     for (i, b) in first.iter().enumerate() {
-        if !b.is_ascii_digit() {
+        if !is_digit(*b) {
             return Digits { count: i, value };
         }
         value = value * 10 + u64::from(*b - b'0');

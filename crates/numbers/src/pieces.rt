@@ -68,8 +68,8 @@ pub fn is_byte(s: &[u8], b: u8) -> bool
     matches!(s, [x] if *x == b)
 }
 
-// Byte by byte.
-#[tactic(auto, using(crate::proofs::PieceLaws::same_pointwise))]
+// Byte by byte. The last two laws tell a body that goes over the pairs.
+#[tactic(auto, using(crate::proofs::PieceLaws::same_pointwise, crate::proofs::PieceLaws::same_or_differ, crate::proofs::PieceLaws::same_long))]
 pub fn equal(a: &[u8], b: &[u8]) -> bool
     ensures { result ≡ same a.now b.now }
 {

@@ -6,6 +6,7 @@ use Rattle.std.proofs.Common.{◌∙◌, inl, inr, arith, eqb-true, eq-eqb, leb-
 use Prim.Native.Nat.{ℕ, zero, suc, ◌+◌, ◌*◌, ◌%◌, ◌≤◌, ◌<◌}
 use Rattle.refusals.specs.declared.Refusal.{Refusal}
 use Rattle.refusals.specs.declared.Refusal.TheVariants as R
+use Rattle.refusals.specs.Refusal.{number}
 use Rattle.refusals.specs.Choice.{unless, Check, fine, first_of}
 use Rattle.refusals.specs.Tests.{by_test, clash, and_true, true_and}
 use Rattle.signed.specs.Tests.{eq_z, eq_z_true}
@@ -61,10 +62,10 @@ pub record FirstRefused (b : List ℤ) (r : Refusal) : Type 0 where
   pub here : point_refusal (latitude_at b i) (longitude_at b i) ≡ Err r
   pub before : (j : ℕ) → j < i → point_refusal (latitude_at b j) (longitude_at b j) ≡ fine
 
--- 17 first, then 9, then 6 and 7 by point; no case is another
+-- 17 first, then 9, then 6 and 7 by point; no case is another. A refusal of the whole has its number beside its name, one of a point as `ticks` promises
 pub data Judged (b : List ℤ) : Check → Type 0 where
-  unformed : (Formed b → ⊥) → Judged b (Err R.Buffer)
-  many : Formed b → 1_000 < count b → Judged b (Err R.Points)
+  unformed : (Formed b → ⊥) → number R.Buffer ≡ 17 → Judged b (Err R.Buffer)
+  many : Formed b → 1_000 < count b → number R.Points ≡ 9 → Judged b (Err R.Points)
   refused : {r : Refusal} → Formed b → count b ≤ 1_000 → FirstRefused b r → Judged b (Err r)
   none : Formed b → count b ≤ 1_000 → ((i : ℕ) → i < count b → point_refusal (latitude_at b i) (longitude_at b i) ≡ fine) → Judged b fine
 
@@ -108,11 +109,11 @@ module _ (b : List ℤ) where
   formed_judged f =
       by_test (leb (count b) most_points)
       (λ e. rw e (few_judged f (leb-true (count b) 1_000 e)))
-      (λ e. rw e (many f (leb-false (count b) 1_000 e)))
+      (λ e. rw e (many f (leb-false (count b) 1_000 e) refl))
 
   pub buffer_judged : Judged b (buffer_refusal b)
   unfolding buffer_refusal
   buffer_judged =
       by_test (eqb (length b % numbers) 0 && thirds_fit b (count b))
       (λ t. rw t (formed_judged (formed t)))
-      (λ t. rw t (unformed (λ f. clash (formed_test f) t)))
+      (λ t. rw t (unformed (λ f. clash (formed_test f) t) refl))

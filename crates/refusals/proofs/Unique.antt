@@ -7,3 +7,6 @@ use Rattle.refusals.proofs as refusals
 
 pub number : One contracts.Refusal.number.ended refusals.Refusal.number.Reads.Asked refusals.Refusal.number.Reads.Learnt
 number = answers (λ κs a v w. refl)
+
+pub first_of : One contracts.first_of.ended refusals.first_of.Reads.Asked refusals.first_of.Reads.Learnt
+first_of = answers (λ κs a v w. refl)

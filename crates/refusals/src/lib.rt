@@ -3,6 +3,7 @@
 
 ghost use Rattle.std.specs.Prelude.{◌≡◌, Some, decimal};
 ghost use Rattle.refusals.specs.Refusal.{number};
+ghost use Rattle.refusals.specs.Choice.{first_of};
 
 use std::fmt;
 
@@ -62,4 +63,11 @@ impl fmt::Display for Refusal {
     fn fmt<W: fmt::Write>(&self, f: &mut fmt::Formatter<W>) -> fmt::Result {
         write!(f, "{}", self.number())
     }
+}
+
+// The first of two refusals, which `?` is where both are asked for in one function.
+pub fn first_of(a: Result<(), Refusal>, b: Result<(), Refusal>) -> Result<(), Refusal>
+    ensures { result ≡ first_of a b }
+{
+    if a.is_ok() { b } else { a }
 }

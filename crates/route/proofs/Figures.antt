@@ -3,6 +3,7 @@
 use Rattle.std.specs.Prelude.{◌≡◌, refl, [], ◌∷◌, ℕ, pos, neg_ℤ, Ok, Err}
 use Prim.Native.String.{String}
 use Rattle.refusals.specs.declared.Refusal.TheVariants as R
+use Rattle.refusals.specs.Refusal.{number}
 use Rattle.points.specs.Points.{count}
 use Rattle.globe.specs.Measure.{length_up_to, leg_into}
 use Rattle.numbers.specs.declared.Mark.TheVariants as M
@@ -114,11 +115,11 @@ orders =
 -- "at most 1,000 such lines", and 9 before the fields
 pub record Thousand (w : Seen) : Type 0 where
   pub the_1000th : count w.points ≡ 999 → line_of M.Point w (bytes "p\t0\t0") ≡ Ok (L.Point (pos 0) (pos 0))
-  pub the_1001st : count w.points ≡ 1_000 → line_of M.Point w (bytes "p\tx\t0") ≡ Err R.Points
+  pub the_1001st : count w.points ≡ 1_000 → (line_of M.Point w (bytes "p\tx\t0") ≡ Err R.Points) × (number R.Points ≡ 9)
 
 pub thousand : (w : Seen) → Thousand w
 unfolding line_of point_of number_of
-thousand w = record { the_1000th = λ e. rw e; the_1001st = λ e. rw e }
+thousand w = record { the_1000th = λ e. rw e; the_1001st = λ e. (rw e, refl) }
 
 -- "Decimals are exact: a seventh decimal is a tick, a target's third is a metre"
 pub record Decimals : Type 0 where

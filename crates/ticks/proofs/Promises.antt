@@ -5,7 +5,7 @@ use Rattle.std.proofs.Common.{sym, subst, ◌∙◌, inl, inr, arith}
 use Rattle.std.proofs.Math.Path.{ap}
 use Rattle.std.specs.Int.Signed.{lt_z, le_z}
 use Rattle.refusals.specs.declared.Refusal.TheVariants as R
-use Rattle.refusals.specs.Choice.{fine}
+use Rattle.refusals.specs.Choice.{Check, fine, sent}
 use Rattle.refusals.specs.Tests.{by_test, and_true, true_and}
 use Rattle.signed.specs.Sides.{above, below, same, add_sides, sub_sides}
 use Rattle.ticks.specs.Ticks.{half, full_turn, is_latitude, is_longitude, is_angle, folded, accepted, turned, offset_of, point_refusal, sheet_refusal}
@@ -104,26 +104,36 @@ folds a h = record { inside = folded_latitude a h; self = folded_self a; beyond 
 
 -- ---- refusals
 
+-- each refusal by its name, and by the number that is sent back
+
 -- "A point is accepted exactly when its latitude and longitude lie in these ranges."; 6 comes before 7
 pub record PointJudged (lat lon : ℤ) : Type 0 where
-  pub six : is_latitude lat ≡ false → point_refusal lat lon ≡ Err R.Latitude
-  pub seven : is_latitude lat ≡ true → is_longitude lon ≡ false → point_refusal lat lon ≡ Err R.Longitude
-  pub none : accepted lat lon ≡ true → point_refusal lat lon ≡ fine
+  pub six : is_latitude lat ≡ false → (point_refusal lat lon ≡ Err R.Latitude) × (sent (point_refusal lat lon) ≡ 6)
+  pub seven : is_latitude lat ≡ true → is_longitude lon ≡ false → (point_refusal lat lon ≡ Err R.Longitude) × (sent (point_refusal lat lon) ≡ 7)
+  pub none : accepted lat lon ≡ true → (point_refusal lat lon ≡ fine) × (sent (point_refusal lat lon) ≡ 0)
 
 pub point_judged : (lat lon : ℤ) → PointJudged lat lon
 unfolding point_refusal
-point_judged lat lon = record { six = λ e. rw e; seven = λ e f. rw (e, f); none = λ e. let h = and_true (is_latitude lat) (is_longitude lon) e in rw (h.0, h.1) }
+point_judged lat lon =
+    record {
+      six = λ e. (rw e, rw e);
+      seven = λ e f. (rw (e, f), rw (e, f));
+      none = λ e. let h = and_true (is_latitude lat) (is_longitude lon) e in (rw (h.0, h.1), rw (h.0, h.1));
+    }
+
+abbrev pub Is6 : Check → Type 0
+Is6 c = (c ≡ Err R.Latitude) × (sent c ≡ 6)
 
 -- an angle that has a sine is no latitude for that: 90 degrees and a tick
-pub past_the_pole : (is_angle (pos 900_000_001) ≡ true) × (point_refusal (pos 900_000_001) (pos 0) ≡ Err R.Latitude) × (point_refusal (neg_ℤ (pos 900_000_001)) (pos 0) ≡ Err R.Latitude)
+pub past_the_pole : (is_angle (pos 900_000_001) ≡ true) × Is6 (point_refusal (pos 900_000_001) (pos 0)) × Is6 (point_refusal (neg_ℤ (pos 900_000_001)) (pos 0))
 unfolding point_refusal
-past_the_pole = (refl, refl, refl)
+past_the_pole = (refl, (refl, refl), (refl, refl))
 
 -- "Sheets: 14, 6, 7."
 pub record SheetJudged (lat lon meridian : ℤ) : Type 0 where
-  pub fourteen : is_longitude meridian ≡ false → sheet_refusal lat lon meridian ≡ Err R.Meridian
+  pub fourteen : is_longitude meridian ≡ false → (sheet_refusal lat lon meridian ≡ Err R.Meridian) × (sent (sheet_refusal lat lon meridian) ≡ 14)
   pub point : is_longitude meridian ≡ true → sheet_refusal lat lon meridian ≡ point_refusal lat lon
 
 pub sheet_judged : (lat lon meridian : ℤ) → SheetJudged lat lon meridian
 unfolding sheet_refusal
-sheet_judged lat lon meridian = record { fourteen = λ e. rw e; point = λ e. rw e }
+sheet_judged lat lon meridian = record { fourteen = λ e. (rw e, rw e); point = λ e. rw e }

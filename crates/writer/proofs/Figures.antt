@@ -1,9 +1,9 @@
--- The document's rules of a written route as figures: short buffers and their texts, refusals and outputs. The numbers are the document's own.
+-- The document's rules of a written route as figures: short buffers and their texts, refusals and outputs. The numbers are the document's own, without names.
 -- Assumes nothing.
 use Rattle.std.specs.Prelude.{◌≡◌, refl, List, [], ◌∷◌, ℕ, ℤ, pos, neg_ℤ, Option, Some, None, Err}
 use Prim.Native.String.{String}
 use Rattle.refusals.specs.declared.Refusal.TheVariants as R
-use Rattle.refusals.specs.Choice.{fine}
+use Rattle.refusals.specs.Choice.{Check, fine, sent}
 use Rattle.ticks.specs.Ticks.{point_refusal}
 use Rattle.points.specs.Points.{thirds_fit, points_refusal, buffer_refusal}
 use Rattle.numbers.specs.declared.Mark.{Mark}
@@ -29,17 +29,21 @@ pub texts : Texts
 unfolding route_text numeral_of
 texts = record { no_points = refl; gap = refl; leg = refl }
 
+-- what refuses a text, and the number that is sent back
+abbrev pub Sends : Option ℕ → List ℤ → Check → ℕ → Type 0
+Sends target points c n = (text_refusal target points ≡ c) × (sent (text_refusal target points) ≡ n)
+
 -- "order 17, 9, 6 and 7 by point, 16, 15"
 pub record Refusals : Type 0 where
-  pub part_metre : text_refusal (Some 2_500_001) [] ≡ Err R.Target
-  pub greatest : text_refusal (Some 999_999_000) [] ≡ fine
-  pub above : text_refusal (Some 1_000_000_000) [] ≡ Err R.Target
-  pub buffer_first : text_refusal (Some 1) (pos 0 ∷ pos 0 ∷ []) ≡ Err R.Buffer
-  pub point_first : text_refusal (Some 1) (pos 900_000_001 ∷ pos 0 ∷ pos 1 ∷ []) ≡ Err R.Latitude
+  pub part_metre : Sends (Some 2_500_001) [] (Err R.Target) 16
+  pub greatest : Sends (Some 999_999_000) [] fine 0
+  pub above : Sends (Some 1_000_000_000) [] (Err R.Target) 16
+  pub buffer_first : Sends (Some 1) (pos 0 ∷ pos 0 ∷ []) (Err R.Buffer) 17
+  pub point_first : Sends (Some 1) (pos 900_000_001 ∷ pos 0 ∷ pos 1 ∷ []) (Err R.Latitude) 6
 
 pub refusals : Refusals
 unfolding text_refusal target_refusal buffer_refusal thirds_fit points_refusal point_refusal
-refusals = record { part_metre = refl; greatest = refl; above = refl; buffer_first = refl; point_first = refl }
+refusals = record { part_metre = (refl, refl); greatest = (refl, refl); above = (refl, refl); buffer_first = (refl, refl); point_first = (refl, refl) }
 
 -- a route of no points, which takes 12 bytes, into an output of 16 from a place onward
 abbrev pub Answers : ℕ → ℕ → ℕ → Type 0

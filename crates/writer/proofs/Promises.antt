@@ -5,6 +5,7 @@ use Rattle.std.proofs.Math.Path.{ap}
 use Rattle.std.proofs.Common.{arith, eq-eqb, eqb-true, le-leb, leb-true}
 use Rattle.refusals.specs.declared.Refusal.{Refusal}
 use Rattle.refusals.specs.declared.Refusal.TheVariants as R
+use Rattle.refusals.specs.Refusal.{number}
 use Rattle.refusals.specs.Choice.{Check, fine, first_of}
 use Rattle.refusals.specs.Tests.{by_test, clash, and_true, true_and}
 use Rattle.points.specs.Points.{count, buffer_refusal}
@@ -47,7 +48,7 @@ pub data Allowed : Option ℕ → Type 0 where
 -- 17, 9, 6 and 7 by point, then 16; no case is another
 pub data TextJudged (target : Option ℕ) (points : List ℤ) : Check → Type 0 where
   bad_points : {r : Refusal} → Judged points (Err r) → TextJudged target points (Err r)
-  bad_target : Judged points fine → (Allowed target → ⊥) → TextJudged target points (Err R.Target)
+  bad_target : Judged points fine → (Allowed target → ⊥) → number R.Target ≡ 16 → TextJudged target points (Err R.Target)
   accepted : Judged points fine → Allowed target → TextJudged target points fine
 
 target_judged : (target : Option ℕ) (points : List ℤ) → Judged points fine → TextJudged target points (target_refusal target)
@@ -56,7 +57,7 @@ target_judged None points j = accepted j none
 target_judged (Some mm) points j =
     by_test (eqb (mm % metre) 0 && leb mm most_target)
     (λ t. let p = and_true (eqb (mm % metre) 0) (leb mm most_target) t in rw t (accepted j (some (eqb-true (mm % metre) 0 p.0) (leb-true mm most_target p.1))))
-    (λ t. rw t (bad_target j (λ h. clash (test h) t)))
+    (λ t. rw t (bad_target j (λ h. clash (test h) t) refl))
   where
     test : Allowed (Some mm) → eqb (mm % metre) 0 && leb mm most_target ≡ true
     test (some w l) = true_and (eq-eqb (mm % metre) 0 w) (le-leb mm most_target l)

@@ -58,10 +58,10 @@ point_most lat lon =
     (λ t. rw t (omega arith))
 
 not_15 : (target : Option ℕ) (points : List ℤ) {n : Check} → TextJudged target points n → sent n ≡ 15 → ⊥
-not_15 target points (P.bad_points (Q.unformed f)) e = omega arith
-not_15 target points (P.bad_points (Q.many f m)) e = omega arith
+not_15 target points (P.bad_points (Q.unformed f z)) e = omega arith
+not_15 target points (P.bad_points (Q.many f m z)) e = omega arith
 not_15 target points (P.bad_points (Q.refused f m r)) e = omega (arith, rw r.here at (point_most (latitude_at points r.i) (longitude_at points r.i)))
-not_15 target points (P.bad_target j a) e = omega arith
+not_15 target points (P.bad_target j a z) e = omega arith
 not_15 target points (P.accepted j a) e = omega arith
 
 -- of a size, and of what is answered where there is so much room

@@ -38,7 +38,7 @@ impl<'a> Text<'a> {
     }
 }
 
-// How many bytes the text of a route has, which `write` asks before it writes. They are as many under either mark.
+// How many bytes the text of a route has, by the pass that `write` begins with. They are as many under either mark.
 #[tactic(auto, using(crate::proofs::TextSteps::text_either), unfolding(crate::specs::Room::size_of))]
 pub fn size(points: &[i32], target: Option<u64>, mark: Mark) -> Result<usize, Refusal>
     ensures { result ≡ size_of mark target points.now }

@@ -5,7 +5,7 @@ use Rattle.std.proofs.lemmas.List.{get_or-take, length-take}
 use Rattle.numbers.specs.DigitLaws.{most_digits, is_digit}
 use Rattle.numbers.proofs.DigitLaws.{digit_range, leading_next, leading_stop, leading_past}
 use Rattle.numbers.proofs.digits.leading.Goals as goal
-use Rattle.numbers.proofs.digits.leading.Goals.{Else-not-is_ascii_digit}
+use Rattle.numbers.proofs.digits.leading.Goals.{Else-not-is_digit}
 
 -- a place of the first bytes is one of the text, and no more than may be read stand before it
 module _ (most i k : ℕ) (s : List ℕ) (e : k ≡ min most (length s)) (t : i < length (take k s)) where
@@ -26,7 +26,7 @@ module _ (most i k : ℕ) (s : List ℕ) (e : k ≡ min most (length s)) (t : i 
     ten_times : (v + 1) * 10 ≤ 10 ^ most_digits
     ten_times = omega (arith, room_for, mul-le-mul_left ((v + 1) * 10) (one-le-pow (most - (i + 1)) 10 (lit< tt)))
 
-module _ (c : Else-not-is_ascii_digit) where
+module _ (c : Else-not-is_digit) where
   abbrev byte : ℕ
   byte = get_or c.args.s.now c.loop-i.i 0
 
@@ -34,7 +34,7 @@ module _ (c : Else-not-is_ascii_digit) where
   is_own = own c.args.most c.loop-i.i c.min.result c.args.s.now c.min.ensures c.loop-i-test.true
 
   digit : is_digit byte ≡ true
-  digit = rw is_own at (sym c.is_ascii_digit.ensures.value ∙ c.if-not-is_ascii_digit.false)
+  digit = rw is_own at (sym c.is_digit.ensures ∙ c.if-not-is_digit.false)
 
   fits : (48 ≤ byte) × (byte ≤ 57) × ((c.loop-i.value + 1) * 10 ≤ 10 ^ most_digits)
   fits =
@@ -53,13 +53,13 @@ returns c =
       read = rw e at c.loop-i.invariant.1;
     }
 
-pub returns-then-not-is_ascii_digit : goal.returns-then-not-is_ascii_digit
-returns-then-not-is_ascii_digit c =
+pub returns-then-not-is_digit : goal.returns-then-not-is_digit
+returns-then-not-is_digit c =
     let m = c.args.most in
     let s = c.args.s.now in
     let i = c.loop-i.i in
     let k = inside m i c.min.result s c.min.ensures c.loop-i-test.true in
-    let no = rw (own m i c.min.result s c.min.ensures c.loop-i-test.true) at (sym c.is_ascii_digit.ensures.value ∙ c.if-not-is_ascii_digit.true) in
+    let no = rw (own m i c.min.result s c.min.ensures c.loop-i-test.true) at (sym c.is_digit.ensures ∙ c.if-not-is_digit.true) in
     let e = leading_stop m s i k.0 k.1 no in
     record { many = sym (add-zero _) ∙ rw e at c.loop-i.invariant.0; read = rw e at c.loop-i.invariant.1 }
 
@@ -67,7 +67,7 @@ pub overflow_mul-value : goal.overflow_mul-value
 overflow_mul-value c = omega (arith, fits c)
 
 pub overflow_add-value : goal.overflow_add-value
-overflow_add-value c = let b = (goal.at.overflow_add-value c).Else-not-is_ascii_digit in omega (arith, fits b, is_own b, c.from.ensures)
+overflow_add-value c = let b = (goal.at.overflow_add-value c).Else-not-is_digit in omega (arith, fits b, is_own b, c.from.ensures)
 
 pub loop-i-preserved : goal.loop-i-preserved
 loop-i-preserved c =
@@ -76,7 +76,7 @@ loop-i-preserved c =
     let i = c.loop-i.i in
     let v = c.loop-i.value in
     let k = inside m i c.min.result s c.min.ensures c.loop-i-test.true in
-    let b = (goal.at.loop-i-preserved c).Else-not-is_ascii_digit in
+    let b = (goal.at.loop-i-preserved c).Else-not-is_digit in
     let next = leading_next m s i k.0 k.1 (digit b) in
     let d : c.from.result ≡ byte b - 48 = c.from.ensures ∙ ap (λ (x : ℕ). x - 48) (is_own b) in
     let room = room_for m i c.min.result s c.min.ensures c.loop-i-test.true v c.loop-i.invariant.2 in
